@@ -34,7 +34,7 @@ from typing import Any, Callable, Dict, List, NoReturn, Optional, Tuple
 
 sys.dont_write_bytecode = True
 
-from explanations.looks import head_of, packing
+from explanations.looks import LARGE, asks_for_large, head_of, header_of, packing
 from explanations.words import told, unreadable, unwritable
 from leaf_jobs import places, receipts, report
 from leaf_jobs.engines import ENGINES, Engine, Limits, work
@@ -220,6 +220,16 @@ def unpack(folder: Folder, formula: str) -> str:
     return str(folder.at("formula.cnf"))
 
 
+def test_size(plan: Plan, screen: Screen) -> None:
+    """Looks whether the formula's header asks for `--large`."""
+    plan.large = asks_for_large(header_of(plan.input))
+    if plan.large and plan.receipts:
+        raise Fault("c usage", "--receipts takes no formula above 1,000,000 variables or 4,000,000 "
+                    "clauses")
+    if plan.large:
+        screen.say("c " + LARGE)
+
+
 def test_packing(folder: Folder, compress: bool) -> None:
     """Refuses to start if `zstd` is needed, for new logs or for those that stand, and is
     missing."""
@@ -241,7 +251,8 @@ def plant(folder: Folder, plan: Plan, asked: Namespace) -> None:
     """Makes the first tree."""
     part, errors = folder.at("scratch", "tree"), folder.at("scratch", "errors")
     how = words_of_split(asked)
-    if status_of([plan.program, "cubes", "--explain", *how, plan.input], part, errors) != 0:
+    words = [plan.program, "cubes", *plan.limits(), "--explain", *how, plan.input]
+    if status_of(words, part, errors) != 0:
         raise Fault(last_line(part), *explained(errors))
     publish(part, folder.at("trees", "1.icnf"))
     plan.split = " ".join(how)
@@ -327,6 +338,7 @@ def begun(asked: Namespace, screen: Screen) -> Tuple[Folder, Plan]:
     plan, folder = plan_of(asked), Folder(asked.folder or asked.INPUT + ".conquer")
     folder.lock()
     plan.input = unpack(folder, plan.input)
+    test_size(plan, screen)
     test_packing(folder, asked.compress)
     receipts.take_back(folder)
     if folder.newest_tree():

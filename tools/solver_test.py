@@ -26,6 +26,7 @@ from typing import Any, Callable, Dict, Iterator, List, NamedTuple, Optional, Se
 sys.dont_write_bytecode = True
 
 from cases import EXAMPLES, dimacs, opened, pigeons, run, satisfies
+from explanations.looks import LARGE
 
 HERE = Path(__file__).resolve().parent
 SOLVER = HERE / "satcluster-solver"
@@ -206,6 +207,18 @@ class Answers(Case):
             (self.folder / name).write_bytes(packed[:-9])
             self.refuses(tool + " ends with", name)
             self.refuses(tool + " ends with", "--jobs", "2", name)
+
+    def test_large(self) -> None:
+        """A header above the written limits asks for `--large`, of the program or of
+        `conquer.py`."""
+        text = "c wide\np cnf 1000001 2\n1000001 0\n-1000001 0\n"
+        self.write("f.cnf", text)
+        for more in WAYS:
+            end = self.decides(20, *more, "f.cnf")
+            self.assertIn("c " + LARGE, end.lines)
+        self.assertIn("c " + LARGE, self.decides(20, given=text.encode()).lines)
+        self.write("f.cnf", "p cnf 100000000 0\n")
+        self.refuses("input line 1 fault 8", "f.cnf")
 
     def test_refused_while_more_may_come(self) -> None:
         """A program that refuses at once leaves whoever unpacks waiting for more."""

@@ -124,7 +124,10 @@ class Solver:
     def alone(self, program: str) -> None:
         """One process. Not split: what is learnt under one cube would be lost under the next."""
         source = self.source()
-        command = [program, "solve", "--explain", "--depth", str(self.asked.depth or 0)]
+        limits = source.limits()
+        if limits:
+            self.output.comment([looks.LARGE])
+        command = [program, "solve", *limits, "--explain", "--depth", str(self.asked.depth or 0)]
         process = start(command + self.more() + [source.path] + self.proof(), stdin=source.pipe,
                         stdout=subprocess.PIPE, stderr=subprocess.PIPE)
         source.close()
@@ -136,7 +139,7 @@ class Solver:
         assert process.stderr is not None
         text = process.stderr.read().decode("utf-8", "replace")  # it is short: nothing waits for it
         shown = {source.path: words.shown(self.asked.formula)}
-        self.tell(process, source, lines, lambda line: of_head(program, source, line)
+        self.tell(process, source, lines, lambda line: of_head(program, source, limits, line)
                   or words.told(text, shown))
 
     def by_jobs(self, program: str) -> None:
@@ -205,7 +208,7 @@ def why_not(status: int, lines: Lines, reasons: List[str]) -> List[str]:
     return ["the program ended with status %d, and without the answer of that" % status] + reasons
 
 
-def of_head(program: str, source: Source, line: str) -> List[str]:
+def of_head(program: str, source: Source, limits: List[str], line: str) -> List[str]:
     """What a fault in the first bytes of a pipe means. The program cannot read these once more, so
     `cubes --explain` reads them from a file."""
     if not source.head or not line.startswith("c input "):
@@ -215,7 +218,7 @@ def of_head(program: str, source: Source, line: str) -> List[str]:
     with NamedTemporaryFile(prefix="satcluster-") as file:
         file.write(source.head)
         file.flush()
-        done = subprocess.run([program, "cubes", "--explain", "--depth", "0", file.name],
+        done = subprocess.run([program, "cubes", *limits, "--explain", "--depth", "0", file.name],
                               stdout=subprocess.PIPE, stderr=subprocess.PIPE)
         text = done.stderr.decode("utf-8", "replace")
         if done.stdout.decode("ascii", "replace") != line + "\n":

@@ -36,6 +36,14 @@ class Source:
     unpacker: Optional[subprocess.Popen] = None
     tool: str = ""
     errors: List[str] = field(default_factory=list)  # of reading standard input
+    front: bytes = b""  # the first bytes of what a packed file holds
+
+    def limits(self) -> List[str]:
+        """The word for the limits that the formula's header asks for. Of what comes packed by
+        standard input the header is not seen."""
+        header = looks.first_words(self.head or self.front) if self.pipe else (
+            looks.header_of(self.path))
+        return ["--large"] if looks.asks_for_large(header) else []
 
     def close(self) -> None:
         """Leaves the pipe to the program alone, so that whoever writes to it ends with that."""
@@ -80,7 +88,9 @@ def source_of(formula: str) -> Source:
     if tool is None:
         return Source(path)
     with open(path, "rb") as file:
-        return unpacked(tool, file, [])
+        source = unpacked(tool, file, [])
+    source.front = looks.unpacked_head(tool, path) if is_file else b""
+    return source
 
 
 def from_standard_input() -> Source:

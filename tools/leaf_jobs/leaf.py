@@ -74,6 +74,11 @@ class Plan:
     receipts: bool = False  # whether a job checks its own log, and leaves a receipt
     drops_logs: bool = False  # whether a log is removed when its receipt stands
     rechecks: bool = False  # whether only receipts are made, of logs, and nothing is searched
+    large: bool = False  # whether the formula's header asks for `--large`
+
+    def limits(self) -> List[str]:
+        """The word for the limits on the formula."""
+        return ["--large"] if self.large else []
 
     def kind(self) -> str:
         """The kind of files that close a leaf."""
@@ -254,7 +259,7 @@ def searched(folder: Folder, plan: Plan, leaf: Leaf, near: Path) -> Search:
 def by_refute(plan: Plan, words: List[Word], here: Path, limited: bool) -> Search:
     """The program's own search."""
     limit = ["--limit", str(plan.limit)] if limited and plan.limit else []
-    command = [plan.program, "refute", *words, *limit, plan.input, here / "log"]
+    command = [plan.program, "refute", *plan.limits(), *words, *limit, plan.input, here / "log"]
     status = yield Command(command, here / "answer", plan.seconds if limited else None)
     if status == LATE or (status == 0 and limit):
         return LIMIT
@@ -267,12 +272,13 @@ def by_solver(plan: Plan, solver: List[List[str]], words: List[Word], here: Path
               limited: bool) -> Search:
     """Another solver. `lift` tests its proof, and `join` its assignment."""
     cnf, out, lrat = here / "cnf", here / "out", here / "lrat"
-    status = yield Command([plan.program, "leaf", *words, plan.input], cnf)
+    status = yield Command([plan.program, "leaf", *plan.limits(), *words, plan.input], cnf)
     if status != 0:
         raise Failed("leaf ends with %s: %s" % (status, last_line(cnf)))
     files = {"{cnf}": str(cnf), "{lrat}": str(lrat), "{drat}": str(here / "drat")}
     search, *translate = [[filled(word, files) for word in command] for command in solver]
-    lift = [plan.program, "lift", "--explain", *words, plan.input, lrat, here / "log"]
+    lift = [plan.program, "lift", *plan.limits(), "--explain", *words, plan.input, lrat,
+            here / "log"]
     reader, lifted = None, here / "lifted"
     if plan.pipe:
         os.mkfifo(str(lrat))
@@ -317,7 +323,8 @@ def by_block_solver(plan: Plan, solver: List[str], words: List[Word], tree: Path
         return MODEL
     if status != 20:
         raise Failed("the solver ends with %s: %s" % (status, last_line(out)))
-    lift = [plan.program, "lift", "--explain", "--lidrup", *words, plan.input, lidrup, here / "log"]
+    lift = [plan.program, "lift", *plan.limits(), "--explain", "--lidrup", *words, plan.input,
+            lidrup, here / "log"]
     status = yield Command(lift, lifted)
     if status == 0:
         raise Failed("what the solver has written leaves a leaf of its block open")

@@ -24,7 +24,8 @@ class Race:
     @classmethod
     def begin(cls, folder: Folder, plan: Plan, mark: str) -> Optional["Race"]:
         part = folder.at("scratch", "tree")
-        if status_of([plan.program, "cubes", "--depth", "0", plan.input], part) != 0:
+        words = [plan.program, "cubes", *plan.limits(), "--depth", "0", plan.input]
+        if status_of(words, part) != 0:
             return None
         publish(part, folder.at(WHOLE.tree))
         return cls(Job(folder, plan, WHOLE, mark))

@@ -64,8 +64,8 @@ class Join(FileReader):
         self.folder, self.unpacker = folder, Unpacker(folder)
         self.pipes: Dict[str, str] = {}  # the name of the log that each FIFO has
         dry, written = (["--dry"], []) if proof is None else ([], [proof])
-        words = [plan.program, "join", "--explain", *dry, "--cubes", tree, plan.input, *written,
-                 "-"]
+        words = [plan.program, "join", *plan.limits(), "--explain", *dry, "--cubes", tree,
+                 plan.input, *written, "-"]
         with folder.at("scratch", "errors").open("wb") as errors:
             self.process = start(Command(words, self.output), stdin=subprocess.PIPE, stderr=errors,
                                  cwd=str(folder.path))
@@ -390,7 +390,8 @@ class Run:
         if not self.can_split:
             return False
         part, before = self.folder.at("scratch", "tree"), set(self.cubes)
-        words: List[Word] = [self.plan.program, "cubes", "--cubes", self.folder.at(self.tree),
+        words: List[Word] = [self.plan.program, "cubes", *self.plan.limits(), "--cubes",
+                             self.folder.at(self.tree),
                              "--split", str(self.place[cube]), self.plan.input]
         if status_of(words, part) != 0:
             return False

@@ -3,7 +3,7 @@ use Rattle.std.specs.Prelude.{ℕ}
 use Rattle.answers.specs.declared.fault.Kind.{Kind}
 use Rattle.answers.specs.declared.fault.Kind.TheVariants.{ForeignLine, BadToken, BehindEnd, ComplementaryPair, NotEnded, NoMemory}
 
--- the number that stands for a fault where it is printed
+-- the number of a fault's kind, as it is printed
 abbrev pub number_of_kind : Kind → ℕ
 number_of_kind ForeignLine = 1
 number_of_kind BadToken = 2

@@ -11,40 +11,43 @@ use Rattle.answers.specs.Parse.{Naming, answer_of, no_memory, read_lines}
 abbrev pub named_by : List Bool → Assumed
 named_by marks = λ l. slice_index_or marks (index_of l) false
 
--- the table of the literals named, and whether the 0 was read
+-- the value of a table of literals, with whether the 0 was read
 pub record Marking : Type 0 where
   pub marks : List Bool
   pub ended : Bool
 
+-- the literals that the table names, with whether the 0 was read
 abbrev pub naming_of : Marking → Naming
 naming_of m = record { named = named_by m.marks; ended = m.ended }
 
--- what was read of a text: how many lines have ended, what they named, and of the line that is begun what still matters
+-- what was read of a text: the number of lines that have ended, what they named, and the bytes of the line that is begun, as far as they
+-- still matter
 pub record LinesRead : Type 0 where
   pub count : ℕ
   pub naming : Marking
   pub begun : List ℕ
 
--- the literals that a text names whose further bytes are these, or its first fault
+-- the literals that a text names, or its first fault, if this was read of it and these bytes follow
 abbrev pub read_on : LinesRead → List ℕ → Result Assumed AnswerFault
 read_on read more = read_lines read.count (lines (read.begun ++ more)) (naming_of read.naming)
 
--- what is kept of the pieces so far, or the fault that was met
+-- the state of a reader: what was read so far, or the fault that was found
 pub data Progress : Type 0 where
   Within : LinesRead → Progress
   Failed : AnswerFault → Progress
 
+-- the state of a reader by its fault, if there is one, and by what was read
 abbrev pub progress_of : Option AnswerFault → LinesRead → Progress
 progress_of None read = Within read
 progress_of (Some fault) read = Failed fault
 
--- These bytes of a text have been read: whatever bytes follow, what is kept tells what the whole text is. A fault is the
--- text's, or want of memory.
+-- a reader in this state has read these bytes: whatever bytes follow, its state says what the whole text is. A fault is the text's, or
+-- memory was refused
 abbrev pub HasRead : Progress → List ℕ → Type 0
 HasRead (Within read) bytes = (more : List ℕ) → answer_of (bytes ++ more) ≡ read_on read more
 HasRead (Failed fault) bytes = (more : List ℕ) → Fails no_memory fault (answer_of (bytes ++ more))
 
--- a call answers the table of what is named, or the first fault, unless memory ran out
+-- the result of a call is right: the table of the expected literals, or the expected fault, or memory was refused
 abbrev pub GivesNamed : Result (List Bool) AnswerFault → Result Assumed AnswerFault → Type 0
 GivesNamed (Ok marks) expected = expected ≡ Ok (named_by marks)
 GivesNamed (Err fault) expected = Fails no_memory fault expected

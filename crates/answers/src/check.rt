@@ -1,4 +1,4 @@
-//! Whether a solver's answer satisfies a formula.
+//! The test whether a solver's answer satisfies a formula.
 
 ghost use Rattle.std.specs.Prelude.{◌≡◌, ◌++◌, ℕ, List, [], IfOk, Result};
 ghost use Rattle.dimacs.specs.logic.Propagation.{Assumed};
@@ -13,7 +13,7 @@ use dimacs::Formula;
 use std::alloc::{AllocError, Global};
 use std::marker::Model;
 
-/// A test of a solver's answer, which comes in pieces, against a formula.
+/// A test of a solver's answer, which is read piece by piece, against a formula.
 pub struct ModelCheck {
     alloc: Global,
     formula: Formula,
@@ -38,7 +38,7 @@ impl Model for ModelCheck {
     ghost view = { λ c. record { formula = c.formula; progress = c.reader } };
 }
 
-/// The report of what an answer was found to name, or of its fault.
+/// Makes the report of the literals that an answer names, or of its fault. It is an error if memory was refused.
 fn reported(
     alloc: Global,
     formula: &Formula,
@@ -54,7 +54,7 @@ fn reported(
 }
 
 impl ModelCheck {
-    /// Has read no byte of an answer.
+    /// A test of a formula that has read no byte of an answer.
     pub fn of(alloc: Global, formula: Formula) -> ModelCheck
         ensures formula { result.formula ≡ formula }
         ensures read { HasRead result.progress [] }
@@ -74,8 +74,8 @@ impl ModelCheck {
         self.reader.feed(piece)
     }
 
-    /// Ends the text, and gives the report: status 0 exactly if the answer names literals, none with its negation, of which
-    /// each clause has one; then some assignment satisfies the formula. The error stands for want of memory.
+    /// Ends the text, and makes the report: its status is 0 exactly if the answer names literals, none with its negation, of which each
+    /// clause has one; then some assignment satisfies the formula. It is an error if memory was refused.
     pub fn finish(self) -> Result<ModelReport, AllocError>
         ensures { (bytes : List ℕ) → HasRead self.progress bytes → IfOk result (IsModelReport self.formula bytes) }
     {

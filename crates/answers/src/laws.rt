@@ -1,4 +1,4 @@
-//! Laws of the definitions.
+//! Laws of the definitions, as contracts of calls that do nothing.
 
 ghost use Rattle.std.specs.Prelude.{◌≡◌, ◌≢◌, ℕ, Bool, List, Ok, IfErr};
 ghost use Rattle.dimacs.specs.logic.Cnf.{Cnf, Sat};
@@ -9,7 +9,7 @@ ghost use Rattle.answers.specs.Parse.{answer_of};
 
 use crate::fault::Kind;
 
-/// Reading gives exactly the literals that a text names.
+/// The literals that are read of a text are exactly those that it names.
 pub fn reading_is_naming()
     ensures found { (text : List ℕ) (α : Assumed) → answer_of text ≡ Ok α → (named : List Literal) × Names text named × (α ≡ has named) }
     ensures only { (text : List ℕ) (named : List Literal) → Names text named → answer_of text ≡ Ok (has named) }
@@ -20,7 +20,7 @@ pub fn verified_formulas_are_satisfiable()
     ensures { (text : List ℕ) (F : Cnf) → Verifies text F → (a : ℕ → Bool) × Sat a F }
 {}
 
-/// No text is told to want memory: only a call answers that.
+/// By the definition no text has the fault that memory was refused: only a call answers this.
 pub fn no_answer_wants_memory()
     ensures { (text : List ℕ) → IfErr (answer_of text) (λ f. f.kind ≢ Kind.NoMemory) }
 {}

@@ -1,8 +1,8 @@
 //! The answers of SAT solvers, and whether they satisfy a formula.
 //!
-//! What a layer above may rest on: a reader believes exactly the texts of the grammar, in whatever pieces they come, and answers
-//! the first fault of every other; literals are told to satisfy a formula exactly if each clause has one of them, and
-//! then there is an assignment that satisfies it.
+//! What a layer above may rest on: a reader believes exactly the texts of the grammar, in whatever pieces they come, and finds the first
+//! fault of every other text; literals are said to satisfy a formula exactly if each clause has one of them, and then there is an
+//! assignment that satisfies it.
 #![tactic(auto)]
 
 mod check;

@@ -1,4 +1,4 @@
-//! The lines of an answer, part by part.
+//! The lines of an answer, read piece by piece.
 
 ghost use Rattle.std.specs.Prelude.{◌≡◌, ◌≤◌, ◌+◌, ◌^◌, ◌∷◌, [], false, MatchResult, OnErr};
 ghost use Rattle.dimacs.specs.inner.Pieces.{IsOpen};
@@ -14,7 +14,7 @@ use crate::value_lines::Values;
 use std::alloc::{AllocError, Global};
 use std::marker::Model;
 
-/// The number of the line after so many lines. A number that has no room in 64 bits, and no other, is refused as for want of memory.
+/// The number of the line after `count` lines. It is an error, as if memory was refused, only if the number has no room in 64 bits.
 fn next_number(count: u64) -> Result<u64, AnswerFault>
     ensures number { MatchResult result (λ n. n ≡ count + 1) (λ fault. fault ≡ no_memory) }
     ensures only { OnErr result (2 ^ 64 ≤ count + 1) }
@@ -25,7 +25,7 @@ fn next_number(count: u64) -> Result<u64, AnswerFault>
     }
 }
 
-/// What was read of a text: how many lines have ended, what they named, and the line that is begun.
+/// What was read of a text: the number of lines that have ended, what they named, and the line that is begun.
 #[derive(Drop)]
 pub(crate) struct AnswerLines {
     count: u64,
@@ -42,7 +42,7 @@ impl Model for AnswerLines {
 }
 
 impl AnswerLines {
-    /// Nothing was read.
+    /// The state in which no byte was read.
     pub(crate) fn new(alloc: Global) -> AnswerLines
         ensures { result ≡ record { count = 0; naming = record { marks = []; ended = false }; begun = [] } }
     {
@@ -53,7 +53,7 @@ impl AnswerLines {
         }
     }
 
-    /// Takes bytes of the line that is begun.
+    /// Reads bytes of the present line, which may have begun in an earlier piece. They have no LF.
     fn take_part(&mut self, part: &[u8]) -> Result<(), AnswerFault>
         requires { IsOpen part.now }
         ensures { MatchResult result (λ _. Leads self.old part.now self.new) (λ fault. Refuses self.old part.now fault) }
@@ -62,7 +62,7 @@ impl AnswerLines {
         self.line.take(&mut self.values, number, part)
     }
 
-    /// Takes an LF.
+    /// Ends the present line at its LF: its last token is complete now.
     fn end_line(&mut self) -> Result<(), AnswerFault>
         ensures { MatchResult result (λ _. Leads self.old (10 ∷ []) self.new) (λ fault. Refuses self.old (10 ∷ []) fault) }
     {
@@ -72,7 +72,7 @@ impl AnswerLines {
         Ok(())
     }
 
-    /// Takes the next piece of a text. After a fault what is kept is of no further use.
+    /// Reads the next piece of a text. After a fault this state is of no further use.
     pub(crate) fn take(&mut self, piece: &[u8]) -> Result<(), AnswerFault>
         ensures { MatchResult result (λ _. Leads self.old piece.now self.new) (λ fault. Refuses self.old piece.now fault) }
     {
@@ -85,7 +85,7 @@ impl AnswerLines {
         self.take_part(rest)
     }
 
-    /// What a text names that ends here.
+    /// Ends the text. Returns the literals that it names, or its first fault.
     pub(crate) fn finish(self) -> Result<Named, AnswerFault>
         ensures { GivesNamed result (read_on self []) }
     {

@@ -12,7 +12,7 @@ use dimacs::{Assignment, Formula, Lit, Var};
 use std::alloc::{AllocError, Global};
 use std::marker::Model;
 
-/// Whether the mark of a literal is set; past the end of the table none is.
+/// Whether the mark of a literal is set; past the end of the table no mark is.
 #[inline(always)]
 fn is_marked(marks: &[bool], literal: Lit) -> bool
     ensures { result ≡ named_by marks.now literal }
@@ -21,7 +21,7 @@ fn is_marked(marks: &[bool], literal: Lit) -> bool
     place < marks.len() && marks[place]
 }
 
-/// Makes at least so many places in a table. A new place is unset, as one past the end reads.
+/// Grows a table to at least `places` marks. A new mark is unset, as a read past the end says too.
 fn grow(marks: &mut Vec<bool>, places: usize) -> Result<(), AllocError>
     ensures fits { OnOk result (places ≤ vec_len marks.new) }
     ensures same { (i : ℕ) → slice_index_or marks.new.items i false ≡ slice_index_or marks.old.items i false }
@@ -43,14 +43,14 @@ fn mark(marks: &mut Vec<bool>, literal: Lit) -> Result<(), AllocError>
     Ok(())
 }
 
-/// Whether some literal of a clause is named.
+/// Whether some literal of a clause is named, so that the answer satisfies the clause.
 fn meets(marks: &[bool], clause: &[Lit]) -> bool
     ensures { result ≡ list_any (named_by marks.now) clause.now }
 {
     clause.iter().any(|l| is_marked(marks, *l))
 }
 
-/// Literals that are named, none with its negation: a mark for each literal up to the greatest variable that was named.
+/// Literals that are named, none with its negation: a table of marks up to the greatest variable that was named.
 #[derive(Drop)]
 pub struct Named {
     marks: Vec<bool>,
@@ -69,7 +69,7 @@ impl Model for Named {
 }
 
 impl Named {
-    /// No literal is named.
+    /// A table in which no literal is named.
     pub(crate) fn new(alloc: Global) -> Named
         ensures { result ≡ [] }
     {
@@ -85,7 +85,7 @@ impl Named {
         is_marked(&self.marks, literal)
     }
 
-    /// Names a literal.
+    /// Names a literal, whose negation is not named.
     pub(crate) fn add(&mut self, literal: Lit) -> Result<(), AllocError>
         requires { named_by self.old (negation literal) ≡ false }
         ensures { OnOk result (named_by self.new ≡ with_literal (named_by self.old) literal) }
@@ -93,7 +93,7 @@ impl Named {
         mark(&mut self.marks, literal)
     }
 
-    /// The number, from 1, of the first clause of which no literal is named. It takes no memory.
+    /// The number, from 1, of the first clause of which no literal is named; None if each clause has one. It takes no memory.
     pub fn first_missed(&self, formula: &Formula) -> Option<u64>
         ensures { result ≡ first_missed (named_by self.now) formula.now }
     {
@@ -105,8 +105,8 @@ impl Named {
         None
     }
 
-    /// The assignment of so many variables in which the variables that are named are true, and all others false. It satisfies
-    /// each formula of these variables of which no clause is missed.
+    /// The assignment of the variables from 1 to `vars` in which a variable is true if its positive literal is named, and else false. It
+    /// satisfies each formula of these variables of which no clause is missed.
     pub fn assignment(&self, alloc: Global, vars: u32) -> Result<Assignment, AllocError>
         requires { vars < 2 ^ 31 }
         ensures len { IfOk result (λ a. length a ≡ vars) }

@@ -1,4 +1,4 @@
-//! The line that is begun.
+//! The line that is begun: its bytes come in pieces.
 
 ghost use Rattle.std.specs.Prelude.{◌≡◌, ◌==◌, ◌||◌, ◌<◌, ℕ, List, [], ◌∷◌, ◌++◌, length, MatchResult, OnOk};
 ghost use Rattle.dimacs.specs.inner.Rows.{Gives};
@@ -16,25 +16,25 @@ use dimacs::words::next_word;
 use std::alloc::Global;
 use std::marker::Model;
 
-/// What a line that is begun is, by its first byte.
+/// The kind of a line that is begun, by its first byte.
 #[derive(Clone, Copy, Debug, PartialEq, Eq)]
 pub(crate) enum Begun {
-    /// It is passed over.
+    /// The line is passed over.
     Passed,
-    /// White space alone, so far.
+    /// The line has white space alone, so far.
     Blank,
-    /// It holds values, of which all but the last token have been read.
+    /// The line has values, of which all have been read except the last token.
     Values,
 }
 
-/// Whether a line that begins so is passed over, whatever it holds.
+/// Whether a line with this first byte is passed over, whatever follows it.
 fn is_passed(byte: u8) -> bool
     ensures { result ≡ (byte == 99 || byte == 115) }
 {
     byte == b'c' || byte == b's'
 }
 
-/// What the line of this number is, by its first byte.
+/// The kind of the line of this number, by its first byte; a fault if no line of an answer begins with it.
 fn begun_by(number: u64, byte: u8) -> Result<Begun, AnswerFault>
     ensures { MatchResult result
         (λ begun. (rest : List ℕ) → line_of (begun_text begun [] ++ rest) ≡ line_of (byte ∷ rest))
@@ -51,7 +51,8 @@ fn begun_by(number: u64, byte: u8) -> Result<Begun, AnswerFault>
     }
 }
 
-/// Passes over white space.
+/// Tests that the rest of a line that begins with white space is white space alone; else the line
+/// of this number is foreign.
 fn pass_blanks(number: u64, text: &[u8]) -> Result<(), AnswerFault>
     ensures { MatchResult result (λ _. words text.now ≡ []) (λ fault. (0 < length (words text.now)) × (fault ≡ record { kind = Kind.ForeignLine; line = number })) }
 {
@@ -61,7 +62,8 @@ fn pass_blanks(number: u64, text: &[u8]) -> Result<(), AnswerFault>
     Ok(())
 }
 
-/// Reads values after a token that is begun, and keeps the token that may go on.
+/// Reads the values in the next bytes of a `v` line. `token` holds a token that the last piece has
+/// cut; it is completed first, and the last token of these bytes, which may go on, takes its place.
 fn take_values(
     values: &mut Values,
     number: u64,
@@ -86,7 +88,7 @@ fn take_values(
     Ok(())
 }
 
-/// Takes further bytes of a line of this number that is begun.
+/// Reads further bytes of the line of this number, by its kind.
 fn go_on(
     begun: Begun,
     values: &mut Values,
@@ -106,7 +108,7 @@ fn go_on(
     }
 }
 
-/// Reads what is left of a line of this number, which ends here.
+/// Ends the line of this number: the token that is kept is complete now, and is read.
 fn end_line(begun: Begun, values: &mut Values, number: u64, token: &[u8]) -> Result<(), AnswerFault>
     ensures { Gives no_memory (naming_of values.new) result (read_line number (begun_text begun token.now) (naming_of values.old)) }
 {
@@ -117,10 +119,12 @@ fn end_line(begun: Begun, values: &mut Values, number: u64, token: &[u8]) -> Res
     }
 }
 
-/// The line that is begun. Of a line that holds values it keeps a token at most.
+/// The line that is begun, or none. Of a line with values, the last token is kept, and of other lines nothing.
 #[derive(Drop)]
 pub(crate) struct Line {
+    /// The kind of the line; None if no byte of it was read.
     begun: Option<Begun>,
+    /// The last token of a line with values, which may go on.
     token: Vec<u8>,
 }
 
@@ -137,7 +141,7 @@ impl Model for Line {
 }
 
 impl Line {
-    /// No byte of it was seen.
+    /// A line of which no byte was read.
     pub(crate) fn new(alloc: Global) -> Line
         ensures { result ≡ [] }
     {
@@ -147,7 +151,7 @@ impl Line {
         }
     }
 
-    /// Takes the first bytes of the line of this number.
+    /// Reads the first bytes of the line of this number, which have no LF; nothing changes if there are none.
     fn begin(&mut self, values: &mut Values, number: u64, part: &[u8]) -> Result<(), AnswerFault>
         requires begun { self.old ≡ [] }
         requires open { IsOpen part.now }
@@ -165,7 +169,8 @@ impl Line {
         go_on(begun, values, number, &mut self.token, &part[1..])
     }
 
-    /// Takes further bytes of the line of this number.
+    /// Reads the next bytes of the present line, which have no LF; the line's first byte tells its
+    /// kind.
     pub(crate) fn take(
         &mut self,
         values: &mut Values,
@@ -184,7 +189,7 @@ impl Line {
         }
     }
 
-    /// Reads what is left of the line of this number, which ends here. No byte of the next one was seen then.
+    /// Reads the last token of the line of this number, which ends here. After this call no byte of the next line was read.
     pub(crate) fn end(&mut self, values: &mut Values, number: u64) -> Result<(), AnswerFault>
         ensures read { Gives no_memory (naming_of values.new) result (read_line number self.old (naming_of values.old)) }
         ensures next { OnOk result (self.new ≡ []) }

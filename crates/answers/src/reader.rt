@@ -1,4 +1,4 @@
-//! A solver's answer that comes in pieces.
+//! The reader of a solver's answer, which comes in pieces.
 
 ghost use Rattle.std.specs.Prelude.{ℕ, List, [], ◌++◌};
 ghost use Rattle.answers.specs.Pieces.{GivesNamed, HasRead};
@@ -10,11 +10,12 @@ use crate::named_literals::Named;
 use std::alloc::Global;
 use std::marker::Model;
 
-/// What reads a solver's answer that comes in pieces. It keeps a table of the literals that are named, and no text but a token
-/// that is begun.
+/// A reader of a solver's answer, which comes in pieces. It keeps a table of the literals that are named, and of the text only a token that
+/// is begun.
 #[derive(Drop)]
 pub struct AnswerReader {
     lines: AnswerLines,
+    /// The first fault of the text, if one was found.
     fault: Option<AnswerFault>,
 }
 
@@ -27,7 +28,7 @@ impl Model for AnswerReader {
 }
 
 impl AnswerReader {
-    /// Has read no byte.
+    /// A reader that has read no byte.
     pub fn new(alloc: Global) -> AnswerReader
         ensures { HasRead result [] }
     {
@@ -37,7 +38,7 @@ impl AnswerReader {
         }
     }
 
-    /// Reads the next piece. A fault is kept for `finish`.
+    /// Reads the next piece of the text. A fault is kept for `finish`.
     pub fn feed(&mut self, piece: &[u8])
         ensures { (bytes : List ℕ) → HasRead self.old bytes → HasRead self.new (bytes ++ piece.now) }
     {
@@ -50,7 +51,7 @@ impl AnswerReader {
         }
     }
 
-    /// Ends the text, and gives the literals that it names, or its first fault.
+    /// Ends the text. Returns the literals that it names, or its first fault.
     pub fn finish(self) -> Result<Named, AnswerFault>
         ensures { (bytes : List ℕ) → HasRead self bytes → GivesNamed result (answer_of bytes) }
     {

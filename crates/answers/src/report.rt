@@ -1,4 +1,4 @@
-//! What is printed of a solver's answer to a formula.
+//! The report of a solver's answer to a formula.
 
 ghost use Rattle.std.specs.Prelude.{◌≡◌, ◌++◌, IfOk, OnOk, decimal, is_none, if◌then◌else◌};
 ghost use Rattle.answers.specs.Reports.{clause_text, fault_text};
@@ -7,7 +7,7 @@ use crate::fault::AnswerFault;
 use itoa::Buffer;
 use std::alloc::{AllocError, Global};
 
-/// The outcome of a test of an answer.
+/// The report of a test of an answer.
 #[derive(Drop)]
 pub struct ModelReport {
     /// What is printed, each line ended by LF.
@@ -25,7 +25,8 @@ fn put_number(out: &mut Vec<u8>, number: u64) -> Result<(), AllocError>
     out.extend_from_slice(text.as_bytes())
 }
 
-/// The report of literals that are named, by the first clause that has none of them.
+/// The report of an answer's literals: verified, or the number `missed` of the first clause of
+/// which none is named.
 pub(crate) fn judged(alloc: Global, missed: Option<u64>) -> Result<ModelReport, AllocError>
     ensures text { IfOk result (λ r. r.text.items ≡ clause_text missed) }
     ensures status { IfOk result (λ r. r.status ≡ (if is_none missed then 0 else 1)) }
@@ -42,7 +43,8 @@ pub(crate) fn judged(alloc: Global, missed: Option<u64>) -> Result<ModelReport, 
     Ok(ModelReport { text, status: 1 })
 }
 
-/// The report of a text that is no answer that can be believed.
+/// The report of an answer that has a fault: not verified, the line and the fault's number; status
+/// 1.
 pub(crate) fn refused(alloc: Global, fault: AnswerFault) -> Result<ModelReport, AllocError>
     ensures text { IfOk result (λ r. r.text.items ≡ fault_text fault) }
     ensures status { IfOk result (λ r. r.status ≡ 1) }

@@ -1,4 +1,4 @@
-//! Where a piece of text may be cut.
+//! Cuts of a piece of text: at its lines and its tokens.
 
 ghost use Rattle.std.specs.Prelude.{◌≡◌, ◌-◌, ◌<◌, ◌≤◌, true, length, slice_index, MatchOption};
 ghost use Rattle.dimacs.specs.text.Words.{is_white};
@@ -6,7 +6,7 @@ ghost use Rattle.dimacs.specs.inner.Pieces.{IsCut, IsOpen};
 
 use memchr::memchr;
 
-/// The line before the first LF, and what follows that LF; `None` if the text has no LF.
+/// Cuts a text at its first LF. Returns the line before it, and the bytes after it; `None` if the text has no LF.
 pub(crate) fn cut_line(text: &[u8]) -> Option<(&[u8], &[u8])>
     ensures { MatchOption result (IsOpen text.now) (λ p. IsCut text.now p.0.now p.1.now) }
 {
@@ -16,6 +16,7 @@ pub(crate) fn cut_line(text: &[u8]) -> Option<(&[u8], &[u8])>
     }
 }
 
+/// Whether a byte is white space: a space, a tab, CR or LF.
 #[inline(always)]
 pub(crate) fn is_white(byte: u8) -> bool
     ensures { result ≡ is_white byte }
@@ -23,7 +24,7 @@ pub(crate) fn is_white(byte: u8) -> bool
     byte == b' ' || byte == b'\t' || byte == b'\r' || byte == b'\n'
 }
 
-/// How many bytes stand before the first white space, or are there at all.
+/// The number of bytes before the first white space; the length of the text if there is none.
 pub(crate) fn first_white(text: &[u8]) -> usize
     ensures bound { result ≤ length text.now }
     ensures white { result < length text.now → is_white (slice_index text.now result) ≡ true }
@@ -36,7 +37,7 @@ pub(crate) fn first_white(text: &[u8]) -> usize
     text.len()
 }
 
-/// How many bytes there are up to the last white space, which counts; 0 if there is none.
+/// The number of bytes up to the last white space, which is included; 0 if there is none.
 pub(crate) fn last_white(text: &[u8]) -> usize
     ensures bound { result ≤ length text.now }
     ensures white { 0 < result → is_white (slice_index text.now (result - 1)) ≡ true }

@@ -1,4 +1,4 @@
-//! The values of `v` lines, token by token.
+//! The values of `v` lines, read token by token.
 
 ghost use Rattle.std.specs.Prelude.{◌≡◌, ℕ, List, [], false, option_map};
 ghost use Rattle.dimacs.specs.inner.Capped.{capped};
@@ -34,7 +34,7 @@ impl Model for Values {
 }
 
 impl Values {
-    /// Nothing was read.
+    /// The state in which no token was read.
     pub(crate) fn new(alloc: Global) -> Values
         ensures { result ≡ record { marks = []; ended = false } }
     {
@@ -44,6 +44,7 @@ impl Values {
         }
     }
 
+    /// Names a literal that a `v` line lists; a fault on this line if its negation is named.
     fn read_literal(&mut self, line: u64, literal: Lit) -> Result<(), AnswerFault>
         ensures { Gives no_memory (naming_of self.new) result (read_literal line literal (naming_of self.old)) }
     {
@@ -54,7 +55,7 @@ impl Values {
         Ok(())
     }
 
-    /// Reads a token that was found to be this number, or none.
+    /// Reads a token of this line: `found` is its number, or None if it is no number.
     fn read_token(&mut self, line: u64, found: Option<Number>) -> Result<(), AnswerFault>
         ensures { (word : List ℕ) → found ≡ option_map capped (number word) → Gives no_memory (naming_of self.new) result (read_token line word (naming_of self.old)) }
     {
@@ -74,7 +75,7 @@ impl Values {
         self.read_literal(line, number.literal())
     }
 
-    /// Reads the tokens of a text that stands on this line.
+    /// Reads the tokens of a part of a `v` line, which is the line of this number.
     pub(crate) fn read(&mut self, line: u64, text: &[u8]) -> Result<(), AnswerFault>
         ensures { Gives no_memory (naming_of self.new) result (read_tokens line (words text.now) (naming_of self.old)) }
     {
@@ -86,7 +87,7 @@ impl Values {
         Ok(())
     }
 
-    /// What is named, if the text ends on this line.
+    /// Ends the text on this line. Returns the literals that are named; a fault if the `0` was not read.
     pub(crate) fn finish(self, line: u64) -> Result<Named, AnswerFault>
         ensures { GivesNamed result (end_of line (naming_of self)) }
     {

@@ -1,13 +1,13 @@
 -- Checking finds no fault exactly in an accepted proof.
-use Rattle.std.proofs.Common.{◌≡◌, ◌⊎◌, ℕ, ◌+◌, Bool, true, false, List, [], ◌∷◌, length, Option, Some, None, Ok, inl, inr, refl, sym, ◌∙◌, ap}
+use Rattle.std.proofs.Common.{◌≡◌, ◌⊎◌, ℕ, ◌+◌, ◌*◌, ◌^◌, ◌<◌, ◌≤◌, max, arith, Bool, true, false, List, [], ◌∷◌, length, Option, Some, None, Ok, inl, inr, refl, sym, ◌∙◌, ap}
 use Rattle.std.proofs.lemmas.Bool.{true≢false}
 use Rattle.dimacs.specs.logic.Cnf.{Cnf}
 use Rattle.dimacs.specs.logic.ClauseMap.{ClauseMap, map_of}
 use Rattle.lrat_text.specs.declared.fault.TextFault.{TextFault}
 use Rattle.lrat_text.specs.declared.step.Step.{Step}
-use Rattle.lrat_text.specs.Proof.{Refutation, TakesStep, AddsEmpty}
-use Rattle.lrat_binary.specs.Grammar.{Spells}
-use Rattle.lrat_binary.specs.Parser.{steps_in}
+use Rattle.lrat_text.specs.Proof.{Refutation, TakesStep, AddsEmpty, proof_top}
+use Rattle.lrat_binary.specs.Grammar.{SpellsWithin}
+use Rattle.lrat_binary.specs.Parser.{ReadResult, steps_within}
 use Rattle.lrat_check.specs.declared.fault.StepFault.{StepFault}
 use Rattle.lrat_check.specs.StepFaults.{step_fault, adds_empty, live_after, top_after}
 use Rattle.lrat_check.specs.ProofFaults.{check_step}
@@ -70,13 +70,15 @@ refutes_checked (step ∷ steps) M top n (M', top', taken, ends) =
 
 -- ---- a proof
 
-module _ (found : (bytes : List ℕ) (steps : List Step) → steps_in bytes ≡ (steps, None) → Spells bytes steps)
-    (only : (bytes : List ℕ) (steps : List Step) → Spells bytes steps → steps_in bytes ≡ (steps, None)) where
+module _ (found : (most : ℕ) (bytes : List ℕ) (steps : List Step) → steps_within most bytes ≡ (steps, None) → SpellsWithin most bytes steps)
+    (only : (most : ℕ) (bytes : List ℕ) (steps : List Step) → most < 2 ^ 48 → SpellsWithin most bytes steps → steps_within most bytes ≡ (steps, None)) where
   pub checked_accepted : (F : Cnf) (bytes : List ℕ) → check_binary_of F bytes ≡ Ok tt → AcceptsBinary F bytes
   checked_accepted F bytes e =
-      let r = checked_refutes (steps_in bytes).0 (map_of F) (length F.clauses) 1 (steps_in bytes).1 e in
-      ((steps_in bytes).0, found bytes (steps_in bytes).0 (ap (λ (o : Option TextFault). ((steps_in bytes).0, o)) r.0), r.1)
+      let read : ReadResult = steps_within (proof_top F) bytes in
+      let r = checked_refutes read.0 (map_of F) (length F.clauses) 1 read.1 e in
+      (read.0, found (proof_top F) bytes read.0 (ap (λ (o : Option TextFault). (read.0, o)) r.0), r.1)
 
-  pub accepted_checked : (F : Cnf) (bytes : List ℕ) → AcceptsBinary F bytes → check_binary_of F bytes ≡ Ok tt
-  accepted_checked F bytes (steps, spelled, refutes) =
-      ap (check_reading false (map_of F) (length F.clauses) 1) (only bytes steps spelled) ∙ refutes_checked steps (map_of F) (length F.clauses) 1 refutes
+  pub accepted_checked : (F : Cnf) (bytes : List ℕ) → F.vars ≤ 99999999 → AcceptsBinary F bytes → check_binary_of F bytes ≡ Ok tt
+  accepted_checked F bytes small (steps, spelled, refutes) =
+      let few : max 2000000 (2 * F.vars) < 2 ^ 48 = omega arith in
+      ap (check_reading false (map_of F) (length F.clauses) 1) (only (proof_top F) bytes steps few spelled) ∙ refutes_checked steps (map_of F) (length F.clauses) 1 refutes

@@ -8,7 +8,7 @@ use lrat_binary::TakesSteps;
 use lrat_check::{CheckFault, Checker, StepFault};
 use lrat_text::StepRef;
 
-/// The fault of a refused step, with the step's number in place of a line's.
+/// Answers the fault of a refused step, with the step's number in place of a line's.
 fn step_refused(fault: StepFault, number: u64) -> CheckFault
     ensures { result ≡ step_refusal fault number }
 {
@@ -22,7 +22,7 @@ fn step_refused(fault: StepFault, number: u64) -> CheckFault
     }
 }
 
-/// The number of the next step. If it does not fit 64 bits, the answer is want of memory.
+/// Answers the number of the step after this one. If it does not fit in 64 bits, the answer is the fault `NoMemory`.
 fn next_number(number: u64) -> Result<u64, CheckFault>
     ensures { MatchResult result (λ next. next ≡ number + 1) (λ fault. fault ≡ no_memory) }
 {
@@ -32,8 +32,9 @@ fn next_number(number: u64) -> Result<u64, CheckFault>
     }
 }
 
-/// A checker, and the number of the step that it checks next.
+/// A checker of steps, and the number of the step that it checks next.
 pub(crate) struct StepChecker {
+    /// The checker of the steps.
     pub(crate) checker: Checker,
     /// The number of the next step, from 1.
     pub(crate) number: u64,
@@ -59,6 +60,7 @@ impl TakesSteps for StepChecker {
 
     ghost refuses = { Refuses };
 
+    /// Gives the step to the checker. A step that the checker refuses is refused with the step's number.
     fn take_step(&mut self, step: StepRef<'_>) -> Result<(), CheckFault> {
         match self.checker.take(step) {
             Ok(()) => {}

@@ -1,7 +1,7 @@
-//! Checking a proof in binary form that comes in pieces, or as a whole.
+//! The checker of a proof in binary form, whole or in pieces of any length.
 
 ghost use Rattle.std.specs.Prelude.{◌≡◌, ◌≢◌, ◌⊎◌, [], None, Ok, Err, OnOk, IfOk, MatchResult};
-ghost use Rattle.lrat_binary.specs.Parser.{BetweenSteps};
+ghost use Rattle.lrat_binary.specs.Parser.{BetweenStepsWithin};
 ghost use Rattle.lrat_check.specs.ProofFaults.{no_memory, GivesCheck};
 ghost use Rattle.binary_check.specs.BinaryProof.{AcceptsBinary};
 ghost use Rattle.binary_check.specs.FirstFault.{check_binary_of, behind_steps};
@@ -11,16 +11,17 @@ ghost use Rattle.std.specs.Result.{result_err};
 
 use crate::steps::StepChecker;
 use dimacs::Formula;
-use lrat_binary::{BinaryReader, FeedFault, reading_is_spelling};
+use lrat_binary::{BinaryReader, FeedFault, reading_within_is_spelling};
 use lrat_check::{CheckFault, Checker};
-use lrat_text::TextFault;
+use lrat_text::{TextFault, proof_top};
 use std::alloc::{AllocError, Global};
 use std::marker::Model;
 
-/// The fault number of a proof none of whose steps adds the empty clause.
+/// The number of the fault of a proof of which no step adds the empty clause.
 const NOT_REFUTED: u8 = 13;
 
-/// The fault of a piece that was refused, if the next step has this number.
+/// Answers the fault of a piece that was not taken to its end: of its bytes, in the step of this
+/// number, or of a step that the checker refused.
 fn refused(fault: FeedFault<CheckFault>, number: u64) -> CheckFault
     ensures { result ≡ feed_refusal fault number }
 {
@@ -30,7 +31,7 @@ fn refused(fault: FeedFault<CheckFault>, number: u64) -> CheckFault
     }
 }
 
-/// Takes the next piece, which continues the incomplete step.
+/// Reads a piece, which continues the incomplete step of the reader `begun`, and checks the steps that are complete now.
 fn take_piece(
     begun: &mut BinaryReader,
     steps: &mut StepChecker,
@@ -47,7 +48,8 @@ fn take_piece(
     }
 }
 
-/// The answer at the end of the proof.
+/// Answers the result at the end of the proof, from what the reader answers there, whether the empty clause was added, and the number of
+/// the next step.
 fn end(rest: Result<(), TextFault>, is_refuted: bool, number: u64) -> Result<(), CheckFault>
     ensures { rest ≢ Err TextFault.NoMemory → result ≡ behind_steps is_refuted number (result_err rest) }
 {
@@ -64,11 +66,14 @@ fn end(rest: Result<(), TextFault>, is_refuted: bool, number: u64) -> Result<(),
     })
 }
 
-/// Checks a proof in binary form that comes in pieces. It stores no bytes except the incomplete step at the end of the last piece. Its
-/// faults have the number of a step in place of a line's.
+/// Checks a proof in binary form that comes in pieces. It stores only the incomplete step at the end of the last piece. Its faults have the
+/// number of a step in place of a line's.
 pub struct BinaryChecker {
+    /// The checker of complete steps.
     steps: StepChecker,
+    /// The reader, with the incomplete step.
     begun: BinaryReader,
+    /// The first fault, once it was met; also a refusal of memory.
     fault: Option<CheckFault>,
 }
 
@@ -98,27 +103,28 @@ impl Model for BinaryChecker {
 }
 
 impl BinaryChecker {
-    /// A checker of a proof of the formula, before the first byte. It copies the formula.
+    /// A checker, which has read no byte, of a proof of the formula, which is copied.
     pub fn new(alloc: Global, formula: &Formula) -> Result<BinaryChecker, AllocError>
         ensures { IfOk result (λ s. HasTaken formula.now s []) }
     {
         BinaryChecker::of(alloc, formula.copy()?)
     }
 
-    /// As [`BinaryChecker::new`], but takes the formula itself and copies nothing.
+    /// A checker, which has read no byte, of a proof of the formula, which is moved in.
     pub fn of(alloc: Global, formula: Formula) -> Result<BinaryChecker, AllocError>
         ensures { IfOk result (λ s. HasTaken formula s []) }
     {
+        let most = proof_top(&formula);
         let checker = Checker::of(alloc, formula)?;
         Ok(BinaryChecker {
             steps: StepChecker { checker, number: 1 },
-            begun: BinaryReader::new(alloc),
+            begun: BinaryReader::within(alloc, most),
             fault: None,
         })
     }
 
-    /// Takes the next piece. The error is the first fault of the steps that are complete by now, or of the bytes of the next one, or want
-    /// of memory. Every later call answers it again.
+    /// Reads the next piece. An `Err` is the first fault of the steps that are complete now, or of the bytes of the next step, or a refusal
+    /// of memory. Each later call answers the same.
     pub fn feed(&mut self, piece: &[u8]) -> Result<(), CheckFault>
         ensures { TakesPiece self.old piece.now result self.new }
     {
@@ -134,14 +140,14 @@ impl BinaryChecker {
         }
     }
 
-    /// Whether a fault was met or memory was refused. Then no further byte changes the answer of `finish`.
+    /// Answers whether a fault was met or memory was refused. Then no further byte changes what `finish` answers.
     pub fn is_settled(&self) -> bool
         ensures { result ≡ has_failed self.now }
     {
         self.fault.is_some()
     }
 
-    /// The answer at the end of the proof. It takes no memory.
+    /// Answers the result of the check if no further byte comes. It allocates nothing.
     pub fn finish(&self) -> Result<(), CheckFault>
         ensures { result ≡ check_more self.now [] }
     {
@@ -167,7 +173,8 @@ fn check_all(alloc: Global, formula: &Formula, proof: &[u8]) -> Result<(), Check
     stream.finish()
 }
 
-/// `Ok` if the bytes are an accepted proof that no assignment satisfies the formula; else their first fault, or want of memory.
+/// Checks whether the bytes are an accepted proof that no assignment satisfies the formula. An `Err` is their first fault, or a refusal of
+/// memory.
 ///
 /// Steps after the one that adds the empty clause need only be spelled correctly.
 pub fn check_binary(alloc: Global, formula: &Formula, proof: &[u8]) -> Result<(), CheckFault>
@@ -178,6 +185,7 @@ pub fn check_binary(alloc: Global, formula: &Formula, proof: &[u8]) -> Result<()
     ensures exact { GivesCheck result (check_binary_of formula.now proof.now) }
 {
     // This law says that reading and spelling agree. The call does nothing.
-    reading_is_spelling();
+    reading_within_is_spelling();
+    let _ = formula.vars(); // its contract says that the formula is within its limits
     check_all(alloc, formula, proof)
 }

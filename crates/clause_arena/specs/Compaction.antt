@@ -5,7 +5,7 @@ use Rattle.dimacs.specs.logic.Literal.{Clause}
 use Rattle.clause_arena.specs.declared.reference.Ref.{Ref}
 use Rattle.clause_arena.specs.Clauses.{Clauses, RefersTo}
 
--- the literals of the live clause of number n, if there is one
+-- the literals of the live clause of number n; none if there is none
 abbrev pub literals_of : Clauses → ℕ → Option Clause
 literals_of m n = option_map (λ (c : ℕ × Clause). c.1) (get m n)
 
@@ -13,7 +13,7 @@ literals_of m n = option_map (λ (c : ℕ × Clause). c.1) (get m n)
 abbrev pub literals_in : Clauses → ℕ
 literals_in m = sum_by (λ (e : ℕ × (ℕ × Clause)). length e.1.1) (entries m)
 
--- a clause that `from` refers to before is referred to by `to` after, at another place
+-- a clause has moved: `from` refers to it before and `to` after, at another offset, under the same number
 pub record HasMoved (old new : Clauses) (from to : Ref) : Type 0 where
   pub literals : Clause
   pub number : to.number ≡ from.number
@@ -21,8 +21,8 @@ pub record HasMoved (old new : Clauses) (from to : Ref) : Type 0 where
   pub after : RefersTo new to literals
   pub elsewhere : from.place ≢ to.place
 
--- the same clauses, without gaps; `moves` has exactly the old and the new reference of each clause whose place changed, in the order
--- of clause numbers
+-- an arena, before and after: it has the same clauses, without gaps; `moves` has exactly the old and the new reference of each clause whose
+-- offset changed, in the order of clause numbers
 pub record IsCompacted (old new : Clauses) (moves : List (Ref × Ref)) : Type 0 where
   pub kept : (n : ℕ) → literals_of new n ≡ literals_of old n
   pub told : (from to : Ref) → Contains moves (from, to) → HasMoved old new from to

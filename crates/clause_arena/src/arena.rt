@@ -1,4 +1,4 @@
-//! The clause arena: its public calls.
+//! The clause arena: a map from clause numbers to clauses.
 
 ghost use Rattle.std.specs.Prelude.{◌≡◌, ℕ, ◌<◌, ◌++◌, List, length, swap, IfOk, OnOk, OnErr, IfSome, IfNone, None};
 ghost use Rattle.std.specs.List.{IsDistinct};
@@ -17,9 +17,11 @@ use dimacs::Lit;
 use std::alloc::{AllocError, Global};
 use std::marker::Model;
 
-/// A map from numbers to clauses. Only `add` and `compact` allocate.
+/// A map from clause numbers to clauses. Only `add` and `compact` allocate.
 pub struct Arena {
+    /// The literals of all clauses, one clause after the other, with gaps where clauses were removed.
     literals: Vec<Lit>,
+    /// The slot of each live clause, by its number.
     index: Index,
 }
 
@@ -58,7 +60,7 @@ impl Arena {
         }
     }
 
-    /// Adds a clause under a number that is not live. If memory is refused, the arena is unchanged.
+    /// Adds a clause under a number that is not live, and returns the reference to it. If memory is refused, the arena is unchanged.
     pub fn add(&mut self, number: u64, literals: &[Lit]) -> Result<Ref, AllocError>
         requires distinct { IsDistinct same literals.now }
         requires fresh { get self.old number ≡ None }
@@ -83,7 +85,7 @@ impl Arena {
         }
     }
 
-    /// The literals of a live clause.
+    /// The literals of the live clause to which `at` refers.
     #[inline(always)]
     pub fn clause(&self, at: Ref) -> &[Lit]
         requires live { IsLive self.now at }
@@ -94,7 +96,7 @@ impl Arena {
         literals_at(&self.literals, at)
     }
 
-    /// The reference to the live clause of a number; None if the number is not live.
+    /// The reference to the live clause of this number; None if there is none.
     #[inline(always)]
     pub fn find(&self, number: u64) -> Option<Ref>
         ensures some { IfSome result (λ at. (at.number ≡ number) × IsLive self.now at) }
@@ -110,7 +112,7 @@ impl Arena {
         }
     }
 
-    /// Exchanges two literals of a live clause.
+    /// Exchanges the literals at the indices i and j of a live clause.
     #[inline(always)]
     pub fn swap(&mut self, at: Ref, i: usize, j: usize)
         requires live { IsLive self.old at }
@@ -121,7 +123,7 @@ impl Arena {
         exchange(&mut self.literals, at, i, j);
     }
 
-    /// Removes a live clause. Its literals stay in the vector as a gap until the next `compact`.
+    /// Removes a live clause. Its literals stay in the vector, as a gap, until the next `compact`.
     pub fn remove(&mut self, at: Ref)
         requires { IsLive self.old at }
         ensures { self.new ≡ remove self.old at.number }

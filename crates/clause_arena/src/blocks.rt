@@ -1,4 +1,4 @@
-//! Slots in blocks of 64 cells, allocated on demand.
+//! The slots of clauses, by clause number, in blocks of 64 cells that are allocated on demand.
 
 ghost use Rattle.std.specs.Prelude.{◌≡◌, ℕ, ◌+◌, ◌-◌, ◌^◌, ◌<◌, ◌≤◌, ◌≢◌, [], ◌∷◌, ◌++◌, None, Some, List, Option, length, map, slice_index_or, slice_set, IsSome, OnOk, OnErr};
 ghost use Rattle.clause_arena.specs.declared.slot.Slot.{Slot};
@@ -10,19 +10,20 @@ use crate::slot::{Cell, Slot};
 use std::alloc::{AllocError, Global};
 use std::marker::Model;
 
-/// Places per block.
+/// The number of cells per block.
 const BLOCK: usize = 64;
 
-/// The greatest number of blocks, so that the number of places does not overflow a `usize`.
+/// The greatest number of blocks, so that the number of cells does not overflow a `usize`.
 const MOST: usize = 1 << 48;
 
-/// Slots by places, in blocks of 64 places. Most places belong to lemmas that were deleted. So the cells of a block are allocated when
-/// its first slot is set, and freed by `list` if the block has no slot: else a search would keep a cell for each lemma that it ever learnt.
+/// Slots in cells, by the cell's index, in blocks of 64 cells. Most cells belong to lemmas that were deleted. So the cells of a block are
+/// allocated when its first slot is set, and freed by `list` if the block has no slot: else a search would keep a cell for each lemma that
+/// it ever learnt.
 #[derive(Drop)]
 pub(crate) struct Blocks {
     /// The cells of each block; empty if the block was not allocated yet or was freed.
     blocks: Vec<Vec<Cell>>,
-    /// How many places there are.
+    /// The number of cells, allocated or not; one that is not allocated counts as free.
     len: usize,
 }
 
@@ -38,33 +39,33 @@ impl Model for Blocks {
     ghost invariant = { λ t. IsBlocks t.len (map (λ b. b.items) t.blocks.items) };
 }
 
-/// Sets the slot of a place of a block. Allocates the block's cells first if it has none; memory may be refused.
-fn put(block: &mut Vec<Cell>, place: usize, slot: Slot) -> Result<(), AllocError>
-    requires within { place < 64 }
+/// Sets a cell of a block to a slot. The block's cells are allocated first if it has none; if that is refused, the block is unchanged.
+fn set_cell(block: &mut Vec<Cell>, cell: usize, slot: Slot) -> Result<(), AllocError>
+    requires within { cell < 64 }
     requires short { length block.old.items ≤ 64 }
     requires room { slot.place < 2 ^ 32 - 1 }
-    ensures here { OnOk result (slice_index_or block.new.items place None ≡ Some slot) }
-    ensures others { (k : ℕ) → k ≢ place → slice_index_or block.new.items k None ≡ slice_index_or block.old.items k None }
+    ensures here { OnOk result (slice_index_or block.new.items cell None ≡ Some slot) }
+    ensures others { (k : ℕ) → k ≢ cell → slice_index_or block.new.items k None ≡ slice_index_or block.old.items k None }
     ensures err { OnErr result (block.new.items ≡ block.old.items) }
     ensures short { length block.new.items ≤ 64 }
 {
     block.resize(BLOCK, Cell::free())?;
-    block[place] = Cell::of(slot);
+    block[cell] = Cell::of(slot);
     Ok(())
 }
 
-/// Frees a place of a block.
-fn free(block: &mut Vec<Cell>, place: usize)
-    ensures here { slice_index_or block.new.items place None ≡ None }
-    ensures others { (k : ℕ) → k ≢ place → slice_index_or block.new.items k None ≡ slice_index_or block.old.items k None }
+/// Frees a cell of a block. A cell that is not allocated is free.
+fn free_cell(block: &mut Vec<Cell>, cell: usize)
+    ensures here { slice_index_or block.new.items cell None ≡ None }
+    ensures others { (k : ℕ) → k ≢ cell → slice_index_or block.new.items k None ≡ slice_index_or block.old.items k None }
     ensures len { length block.new.items ≡ length block.old.items }
 {
-    if place < block.len() {
-        block[place] = Cell::free();
+    if cell < block.len() {
+        block[cell] = Cell::free();
     }
 }
 
-/// Appends a reference to the clause of each cell that is not free; `first` is the clause number of the first cell.
+/// Appends a reference to the clause of each cell that is not free; `first` is the clause number of the cell at index 0.
 pub(crate) fn list_cells(
     cells: &[Cell],
     first: usize,
@@ -85,7 +86,8 @@ pub(crate) fn list_cells(
     Ok(())
 }
 
-/// Appends a reference to each clause of a block. Frees the block's cells if it has none.
+/// Appends a reference to the clause of each cell of a block; `first` is the clause number of its
+/// cell at index 0. A block without a clause gives its memory back.
 fn list_block(block: &mut Vec<Cell>, first: usize, refs: &mut Vec<Ref>) -> Result<(), AllocError>
     requires { first + length block.old.items < 2 ^ 64 }
     ensures same { (k : ℕ) → slice_index_or block.new.items k None ≡ slice_index_or block.old.items k None }
@@ -101,7 +103,7 @@ fn list_block(block: &mut Vec<Cell>, first: usize, refs: &mut Vec<Ref>) -> Resul
 }
 
 impl Blocks {
-    /// No places.
+    /// Blocks without a cell.
     pub(crate) fn new(alloc: Global) -> Blocks
         ensures { result ≡ [] }
     {
@@ -111,7 +113,7 @@ impl Blocks {
         }
     }
 
-    /// How many places there are.
+    /// The number of cells.
     #[inline(always)]
     pub(crate) fn len(&self) -> usize
         ensures len { result ≡ length self.now }
@@ -120,7 +122,7 @@ impl Blocks {
         self.len
     }
 
-    /// The slot at a place, if there is one.
+    /// The slot in the cell at an index; None if the cell is free.
     #[inline(always)]
     pub(crate) fn get(&self, place: usize) -> Option<Slot>
         requires { place < length self.now }
@@ -132,17 +134,17 @@ impl Blocks {
         }
     }
 
-    /// Sets the slot of a place. It may have to allocate the place's block; if memory is refused, nothing changes.
+    /// Sets the cell at an index to a slot. The cells of its block may have to be allocated; if memory is refused, nothing changes.
     pub(crate) fn set(&mut self, place: usize, slot: Slot) -> Result<(), AllocError>
         requires here { place < length self.old }
         requires room { slot.place < 2 ^ 32 - 1 }
         ensures ok { OnOk result (self.new ≡ slice_set self.old place (Some slot)) }
         ensures err { OnErr result (self.new ≡ self.old) }
     {
-        put(&mut self.blocks[place / BLOCK], place % BLOCK, slot)
+        set_cell(&mut self.blocks[place / BLOCK], place % BLOCK, slot)
     }
 
-    /// Replaces the slot of a place that has one. It takes no memory.
+    /// Replaces the slot in the cell at an index, which is not free. It takes no memory.
     pub(crate) fn replace(&mut self, place: usize, slot: Slot)
         requires here { IsSome (slice_index_or self.old place None) }
         requires room { slot.place < 2 ^ 32 - 1 }
@@ -151,16 +153,16 @@ impl Blocks {
         self.blocks[place / BLOCK][place % BLOCK] = Cell::of(slot);
     }
 
-    /// Frees a place.
+    /// Frees the cell at an index.
     pub(crate) fn free(&mut self, place: usize)
         requires { place < length self.old }
         ensures { self.new ≡ slice_set self.old place None }
     {
-        free(&mut self.blocks[place / BLOCK], place % BLOCK);
+        free_cell(&mut self.blocks[place / BLOCK], place % BLOCK);
     }
 
-    /// Adds one free place.
-    pub(crate) fn grow(&mut self) -> Result<(), AllocError>
+    /// Appends one free cell. It is an error if memory is refused or there are 2^54 cells; then nothing changes.
+    pub(crate) fn push_free_cell(&mut self) -> Result<(), AllocError>
         ensures ok { OnOk result (self.new ≡ self.old ++ None ∷ []) }
         ensures err { OnErr result (self.new ≡ self.old) }
     {
@@ -175,8 +177,8 @@ impl Blocks {
         Ok(())
     }
 
-    /// Appends a reference to each clause, in the order of clause numbers; `first` is the number of the first place. Frees the cells of
-    /// blocks without a clause.
+    /// Appends a reference to the clause of each cell, in the order of clause numbers; `first` is the clause number of the cell at index 0.
+    /// Frees the cells of blocks without a clause.
     pub(crate) fn list(&mut self, first: usize, refs: &mut Vec<Ref>) -> Result<(), AllocError>
         requires { first < 2 ^ 63 }
         ensures same { self.new ≡ self.old }

@@ -12,7 +12,7 @@ use crate::slot::{MOST, Slot};
 use dimacs::Lit;
 use std::alloc::{AllocError, Global};
 
-/// The sum of the clauses' lengths.
+/// The sum of the clauses' lengths, saturating at 2^64 - 1.
 fn room_for(refs: &[Ref]) -> usize
     ensures { sum_by (λ (at : Ref). at.len) refs.now < 2 ^ 64 → result ≡ sum_by (λ (at : Ref). at.len) refs.now }
 {
@@ -23,7 +23,7 @@ fn room_for(refs: &[Ref]) -> usize
     room
 }
 
-/// Copies the literals of a clause to the end of `fresh`. Appends the move to `moved` if the clause's place changes.
+/// Copies the literals of a clause to the end of `fresh`. Appends the clause's old and new reference to `moved` if its offset changes.
 fn relocate(
     literals: &[Lit],
     at: Ref,
@@ -52,8 +52,8 @@ fn relocate(
     Ok(())
 }
 
-/// Copies the literals of all clauses into a fresh vector, in the order of `refs`. Appends to `moved` each clause whose place changes;
-/// after an error, `moved` may have some of them.
+/// Copies the literals of these clauses into a fresh vector, in the order of `refs`. Appends the old and the new reference of each clause
+/// whose offset changes to `moved`; after an error, `moved` may have some of them.
 pub(crate) fn relocate_all(
     alloc: Global,
     literals: &[Lit],

@@ -14,7 +14,8 @@ use std::marker::Model;
 /// A map from the number of each live clause to its slot.
 pub(crate) struct Index {
     tables: SlotMap,
-    /// How many clauses were ever inserted. It bounds the length of the dense table, so that one great number does not make a great table.
+    /// The number of clauses that were ever inserted. It bounds the length of the dense table, so that one great number does not make a
+    /// great table.
     taken: u64,
 }
 
@@ -52,7 +53,7 @@ impl Index {
         }
     }
 
-    /// The slot of a number.
+    /// The slot of the live clause of this number; None if there is none.
     #[inline(always)]
     pub(crate) fn get(&self, number: u64) -> Option<Slot>
         ensures { result ≡ get self.now number }
@@ -60,7 +61,7 @@ impl Index {
         self.tables.find(number)
     }
 
-    /// Inserts a slot under a number. If memory is refused, the map is unchanged.
+    /// Inserts a slot under a clause number. If memory is refused, the map is unchanged.
     pub(crate) fn insert(&mut self, number: u64, slot: Slot) -> Result<(), AllocError>
         requires { slot.place < 2 ^ 32 - 1 }
         ensures ok { OnOk result (self.new ≡ insert self.old number slot) }
@@ -71,14 +72,14 @@ impl Index {
         self.tables.put(number, slot)
     }
 
-    /// Removes the slot of a number.
+    /// Removes the slot of a clause number; nothing changes if there is none.
     pub(crate) fn remove(&mut self, number: u64)
         ensures { self.new ≡ remove self.old number }
     {
         self.tables.take(number);
     }
 
-    /// Replaces the slot of a number that has one. It takes no memory.
+    /// Replaces the slot of a clause number that has one. It takes no memory.
     pub(crate) fn replace(&mut self, number: u64, slot: Slot)
         requires live { IsSome (get self.old number) }
         requires room { slot.place < 2 ^ 32 - 1 }
@@ -87,7 +88,7 @@ impl Index {
         self.tables.replace(number, slot);
     }
 
-    /// Gives each clause of `moves` the slot to which it moved.
+    /// Gives each clause that a compaction moved the slot of its new reference.
     pub(crate) fn move_all(&mut self, moves: &[(Ref, Ref)])
         requires live { (i : ℕ) (d : Ref × Ref) → i < length moves.now → IsSome (get self.old (slice_index_or moves.now i d).1.number) }
         requires room { (i : ℕ) (d : Ref × Ref) → i < length moves.now → (slice_index_or moves.now i d).1.place < 2 ^ 32 - 1 }
@@ -104,7 +105,7 @@ impl Index {
         }
     }
 
-    /// Appends a reference to each clause, in the order of clause numbers.
+    /// Appends a reference to each live clause, in the order of clause numbers.
     pub(crate) fn list(&mut self, refs: &mut Vec<Ref>) -> Result<(), AllocError>
         ensures same { self.new ≡ self.old }
         ensures listed { OnOk result (refs.new.items ≡ refs.old.items ++ refs_of self.old) }

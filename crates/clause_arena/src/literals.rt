@@ -7,7 +7,7 @@ ghost use Rattle.clause_arena.specs.inner.Contents.{slot_of, IsPlaced};
 use crate::reference::Ref;
 use dimacs::Lit;
 
-/// The literals of the clause at a reference.
+/// The literals of the clause to which `at` refers.
 #[inline(always)]
 pub(crate) fn literals_at(literals: &[Lit], at: Ref) -> &[Lit]
     requires { IsPlaced literals.now (slot_of at) }
@@ -17,7 +17,7 @@ pub(crate) fn literals_at(literals: &[Lit], at: Ref) -> &[Lit]
     &literals[place..place + at.len as usize]
 }
 
-/// Exchanges two literals of the clause at a reference.
+/// Exchanges the literals at the indices i and j of the clause to which `at` refers.
 #[inline(always)]
 pub(crate) fn exchange(literals: &mut [Lit], at: Ref, i: usize, j: usize)
     requires placed { IsPlaced literals.old (slot_of at) }

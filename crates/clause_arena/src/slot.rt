@@ -4,19 +4,21 @@ ghost use Rattle.std.specs.Prelude.{◌≡◌, ◌<◌, ◌-◌, ◌^◌, Some, 
 
 use std::marker::Model;
 
-/// The limit of 32-bit places: each clause begins before this place, and has at most this many literals.
+/// The limit of 32-bit offsets: each clause begins before this one, and has at most this many literals.
 pub(crate) const MOST: usize = u32::MAX as usize;
 
-/// Where a clause's literals are: the place of the first one, and how many there are. 32 bits, to halve the size of the index; they
-/// reach 16 GB of literals.
+/// Where a clause's literals are in the arena's vector. The fields have 32 bits, to halve the size of the index; they reach 16 GB of
+/// literals.
 #[derive(Clone, Copy)]
 pub(crate) struct Slot {
+    /// The offset of the clause: the index of its first literal.
     pub(crate) place: u32,
+    /// The number of its literals.
     pub(crate) len: u32,
 }
 
 impl Slot {
-    /// The slot of `len` literals from `place` on; None if it is past the limit.
+    /// The slot of `len` literals from the offset `place` on; None if it is past the limit.
     pub(crate) fn of(place: usize, len: usize) -> Option<Slot>
         ensures place { IfSome result (λ slot. slot.place ≡ place) }
         ensures len { IfSome result (λ slot. slot.len ≡ len) }
@@ -32,8 +34,8 @@ impl Slot {
     }
 }
 
-/// A slot or nothing, in 8 bytes: the place `u32::MAX`, at which no clause begins, marks a free cell. An `Option<Slot>` would take
-/// 12 bytes.
+/// A slot or nothing, in 8 bytes: the offset `u32::MAX`, at which no clause begins, stands for a free cell. An `Option<Slot>` would take 12
+/// bytes.
 #[derive(Clone, Copy)]
 pub(crate) struct Cell {
     place: u32,
@@ -68,7 +70,7 @@ impl Cell {
         }
     }
 
-    /// The cell of a slot.
+    /// The cell with a slot.
     pub(crate) fn of(slot: Slot) -> Cell
         requires { slot.place < 2 ^ 32 - 1 }
         ensures { result ≡ Some slot }

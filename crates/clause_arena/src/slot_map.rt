@@ -1,5 +1,5 @@
-//! The map from clause numbers to slots, in two parts. Dense numbers, as those of a formula and its lemmas, index a table (`near`). The
-//! others are keys of a B-tree (`far`), so that one great number does not make a great table.
+//! The map from clause numbers to slots: a table and a B-tree. Dense numbers, as those of a formula and its lemmas, are indices of the
+//! table (`near`). The others are keys of the B-tree (`far`), so that one great number does not make a great table.
 
 ghost use Rattle.std.specs.Prelude.{◌≡◌, ℕ, ◌+◌, ◌-◌, ◌*◌, ◌^◌, ◌≤◌, ◌<◌, max, [], ◌++◌, length, map, slice_index_or, OnOk, OnErr, None, IsSome};
 ghost use Rattle.std.specs.FinMap.{get, insert, remove};
@@ -15,11 +15,14 @@ use crate::slot_table::SlotTable;
 use std::alloc::{AllocError, Global};
 use std::collections::BTreeMap;
 
+/// The B-tree of slots, by clause number.
 type Far = BTreeMap<u64, Slot>;
 
-/// A table for the numbers below its length, and a B-tree for the others.
+/// A table for the clause numbers below its length, and a B-tree for the others.
 pub(crate) struct SlotMap {
+    /// The slots of the clause numbers below the table's length.
     pub(crate) near: SlotTable,
+    /// The slots of other clause numbers.
     pub(crate) far: Far,
 }
 
@@ -41,7 +44,7 @@ impl SlotMap {
         }
     }
 
-    /// The slot of a number past the table.
+    /// The slot of a clause number in the B-tree; None if it is no key.
     #[cold]
     fn find_far(&self, number: u64) -> Option<Slot>
         ensures { result ≡ tree.get nat_cmp self.now.far number }
@@ -52,7 +55,7 @@ impl SlotMap {
         }
     }
 
-    /// The slot of a number.
+    /// The slot of a clause number; None if there is none.
     #[inline(always)]
     pub(crate) fn find(&self, number: u64) -> Option<Slot>
         requires { IsApart self.now }
@@ -66,7 +69,7 @@ impl SlotMap {
         }
     }
 
-    /// Inserts a slot under a number of the table.
+    /// Inserts a slot under a clause number below the table's length. If memory is refused, the map is unchanged.
     fn put_near(&mut self, place: usize, slot: Slot) -> Result<(), AllocError>
         requires apart { IsApart self.old }
         requires here { place < length self.old.near }
@@ -79,7 +82,7 @@ impl SlotMap {
         self.near.set(place, slot)
     }
 
-    /// Replaces the slot of a number of the table.
+    /// Replaces the slot of a clause number below the table's length, which has one.
     fn replace_near(&mut self, place: usize, slot: Slot)
         requires apart { IsApart self.old }
         requires here { place < length self.old.near }
@@ -92,7 +95,7 @@ impl SlotMap {
         self.near.replace(place, slot);
     }
 
-    /// Removes the slot of a number of the table.
+    /// Removes the slot of a clause number below the table's length; nothing changes if there is none.
     fn free_near(&mut self, place: usize)
         requires apart { IsApart self.old }
         requires here { place < length self.old.near }
@@ -103,7 +106,7 @@ impl SlotMap {
         self.near.free(place);
     }
 
-    /// Inserts a slot under a number past the table.
+    /// Inserts a slot under a clause number in the B-tree. If memory is refused, the map is unchanged.
     fn put_far(&mut self, number: u64, slot: Slot) -> Result<(), AllocError>
         requires apart { IsApart self.old }
         requires beyond { length self.old.near ≤ number }
@@ -116,7 +119,7 @@ impl SlotMap {
         Ok(())
     }
 
-    /// Removes the slot of a number past the table.
+    /// Removes a clause number from the B-tree, with its slot; nothing changes if it is no key.
     fn take_far(&mut self, number: u64)
         requires apart { IsApart self.old }
         requires beyond { length self.old.near ≤ number }
@@ -127,7 +130,7 @@ impl SlotMap {
         self.far.remove(&number);
     }
 
-    /// Replaces the slot of a key of the B-tree.
+    /// Replaces the slot of a clause number that is a key of the B-tree.
     fn replace_far(&mut self, number: u64, slot: Slot)
         requires apart { IsApart self.old }
         requires beyond { length self.old.near ≤ number }
@@ -141,7 +144,8 @@ impl SlotMap {
         }
     }
 
-    /// Grows the table until it has this place, which is below all keys of the B-tree. New places are free.
+    /// Grows the table until it has this index, which is below all keys of the B-tree, so that no
+    /// number is in both. New cells are free.
     fn make_place(&mut self, place: usize) -> Result<(), AllocError>
         requires apart { IsApart self.old }
         requires below { (q : ℕ) → IsSome (tree.get nat_cmp self.old.far q) → place < q }
@@ -151,14 +155,14 @@ impl SlotMap {
         ensures few { length self.new.near ≤ max (length self.old.near) (place + 1) }
     {
         while self.near.len() <= place {
-            self.near.grow()?;
+            self.near.push_free_cell()?;
         }
         Ok(())
     }
 
-    /// Grows the table to hold a number, if the number is dense and below all keys of the B-tree. A number is dense below
-    /// 4 * (`taken` + 8192); `taken` counts the clauses ever inserted. So the table has at most four places for each clause that
-    /// was ever inserted, and 32,768 more.
+    /// Grows the table to hold a clause number, if the number is dense and below all keys of the B-tree. A number is dense below 4 *
+    /// (`taken` + 8192); `taken` counts the clauses that were ever inserted. So the table has at most four cells for each such clause, and
+    /// 32,768 more.
     pub(crate) fn reserve_place(&mut self, taken: u64, number: u64) -> Result<(), AllocError>
         requires { IsApart self.old }
         ensures same { slots_of self.new ≡ slots_of self.old }
@@ -180,7 +184,7 @@ impl SlotMap {
         }
     }
 
-    /// Inserts a slot under a number.
+    /// Inserts a slot under a clause number. If memory is refused, the map is unchanged.
     pub(crate) fn put(&mut self, number: u64, slot: Slot) -> Result<(), AllocError>
         requires apart { IsApart self.old }
         requires room { slot.place < 2 ^ 32 - 1 }
@@ -197,7 +201,7 @@ impl SlotMap {
         }
     }
 
-    /// Removes the slot of a number.
+    /// Removes the slot of a clause number; nothing changes if there is none.
     pub(crate) fn take(&mut self, number: u64)
         requires { IsApart self.old }
         ensures after { slots_of self.new ≡ remove (slots_of self.old) number }
@@ -212,7 +216,7 @@ impl SlotMap {
         }
     }
 
-    /// Replaces the slot of a number that has one.
+    /// Replaces the slot of a clause number that has one, after a compaction moved the clause.
     pub(crate) fn replace(&mut self, number: u64, slot: Slot)
         requires apart { IsApart self.old }
         requires live { IsSome (get (slots_of self.old) number) }
@@ -229,7 +233,7 @@ impl SlotMap {
         }
     }
 
-    /// Appends a reference to each clause of the B-tree.
+    /// Appends a reference to each clause of the B-tree, in the order of clause numbers.
     fn list_far(&self, refs: &mut Vec<Ref>) -> Result<(), AllocError>
         ensures ok { OnOk result (refs.new.items ≡ refs.old.items ++ map ref_of self.now.far.entries) }
         ensures ordered { IsOrdered nat_cmp self.now.far }
@@ -244,7 +248,7 @@ impl SlotMap {
         Ok(())
     }
 
-    /// Appends a reference to each clause, in the order of clause numbers.
+    /// Appends a reference to each clause of the table and of the B-tree, in the order of clause numbers.
     pub(crate) fn list(&mut self, refs: &mut Vec<Ref>) -> Result<(), AllocError>
         requires { IsApart self.old }
         ensures same { self.new ≡ self.old }

@@ -10,15 +10,16 @@ use crate::slot::{Cell, Slot};
 use std::alloc::{AllocError, Global};
 use std::marker::Model;
 
-/// Slots by places. Places made before the first removal are in one flat vector, where a slot is found by one read: they are those of
-/// the base's clauses, which a search never removes. Later places are in blocks, which are freed once all their clauses are gone.
+/// Slots in cells, by clause number. Cells made before the first removal are in one flat vector, where a slot is found by one read: they
+/// are those of the base's clauses, which a search never removes. Later cells are in blocks, which are freed once all their clauses are
+/// gone.
 #[derive(Drop)]
 pub(crate) struct SlotTable {
-    /// The cells of the first places.
+    /// The first cells.
     flat: Vec<Cell>,
-    /// The slots of the places after them.
+    /// The cells after them.
     rest: Blocks,
-    /// Whether a clause was ever removed.
+    /// Whether a slot was ever removed.
     taken_out: bool,
 }
 
@@ -32,7 +33,7 @@ impl Model for SlotTable {
 }
 
 impl SlotTable {
-    /// A table without places.
+    /// A table without a cell.
     pub(crate) fn new(alloc: Global) -> SlotTable
         ensures { result ≡ [] }
     {
@@ -43,7 +44,7 @@ impl SlotTable {
         }
     }
 
-    /// How many places there are.
+    /// The number of cells.
     #[inline(always)]
     pub(crate) fn len(&self) -> usize
         ensures { result ≡ length self.now }
@@ -51,7 +52,7 @@ impl SlotTable {
         self.flat.len() + self.rest.len()
     }
 
-    /// The slot at a place, if there is one.
+    /// The slot in the cell at an index; None if the cell is free.
     #[inline(always)]
     pub(crate) fn get(&self, place: usize) -> Option<Slot>
         requires { place < length self.now }
@@ -64,7 +65,7 @@ impl SlotTable {
         }
     }
 
-    /// Sets the slot of a place. It may have to allocate the place's block; if memory is refused, the table is unchanged.
+    /// Sets the cell at an index to a slot. The cells of its block may have to be allocated; if memory is refused, the table is unchanged.
     pub(crate) fn set(&mut self, place: usize, slot: Slot) -> Result<(), AllocError>
         requires here { place < length self.old }
         requires room { slot.place < 2 ^ 32 - 1 }
@@ -79,7 +80,7 @@ impl SlotTable {
         }
     }
 
-    /// Replaces the slot of a place that has one. It takes no memory.
+    /// Replaces the slot in the cell at an index, which is not free. It takes no memory.
     pub(crate) fn replace(&mut self, place: usize, slot: Slot)
         requires here { IsSome (slice_index_or self.old place None) }
         requires room { slot.place < 2 ^ 32 - 1 }
@@ -92,7 +93,8 @@ impl SlotTable {
         }
     }
 
-    /// Frees a place.
+    /// Frees the cell at an index. From then on new cells are made in blocks, which can be given
+    /// back.
     pub(crate) fn free(&mut self, place: usize)
         requires { place < length self.old }
         ensures { self.new ≡ slice_set self.old place None }
@@ -105,20 +107,20 @@ impl SlotTable {
         }
     }
 
-    /// Adds one free place: in the flat vector if no clause was removed yet and no place is in blocks, else in the blocks.
-    pub(crate) fn grow(&mut self) -> Result<(), AllocError>
+    /// Appends one free cell: in the flat vector if no slot was removed yet and no cell is in blocks, else in the blocks.
+    pub(crate) fn push_free_cell(&mut self) -> Result<(), AllocError>
         ensures ok { OnOk result (self.new ≡ self.old ++ None ∷ []) }
         ensures err { OnErr result (self.new ≡ self.old) }
     {
         if self.taken_out || self.rest.len() > 0 {
-            self.rest.grow()?;
+            self.rest.push_free_cell()?;
         } else {
             self.flat.push(Cell::free())?;
         }
         Ok(())
     }
 
-    /// Appends a reference to each clause, in the order of clause numbers. Frees the cells of blocks without a clause.
+    /// Appends a reference to the clause of each cell, in the order of clause numbers. Frees the cells of blocks without a clause.
     pub(crate) fn list(&mut self, refs: &mut Vec<Ref>) -> Result<(), AllocError>
         ensures same { self.new ≡ self.old }
         ensures listed { OnOk result (refs.new.items ≡ refs.old.items ++ map ref_of (near_entries 0 self.old)) }

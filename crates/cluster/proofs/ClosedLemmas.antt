@@ -1,8 +1,9 @@
 -- What holds of a closed cluster at every moment, by the laws of closed schedules.
-use Rattle.std.proofs.Common.{◌≡◌, ℕ, ◌≤◌, All, List, [], ◌∷◌, length, drop, Option, None, Some, IfSome, Bor, Result, Ok, Err, IfOk, refl, subst, sym, ap, ◌∙◌}
+use Rattle.std.proofs.Common.{◌≡◌, ℕ, ◌<◌, ◌≤◌, All, List, [], ◌∷◌, length, drop, Option, None, Some, IfSome, Bor, Result, Ok, Err, IfOk, refl, subst, sym, ap, ◌∙◌}
 use Rattle.std.proofs.lemmas.List.{drop_all}
 use Rattle.std.specs.Option.{option_copied}
 use Rattle.dimacs.specs.logic.Cnf.{Cnf, IsFormula}
+use Rattle.dimacs.specs.logic.Literal.{IsWithin}
 use Rattle.icnf.specs.Leaves.{Cube, IsTree}
 use Rattle.lrat_check.specs.Verdicts.{Right}
 use Rattle.lrat_check.specs.declared.verdict.Reaction.{Reaction}
@@ -10,7 +11,7 @@ use Rattle.lrat_check.specs.declared.verdict.Verdict.{Verdict}
 use Rattle.cube_split.specs.Definitions.{base_with}
 use Rattle.cube_split.specs.Pairs.{AreDefined, AreOf, Definitions, IsBaseWith, no_definitions}
 use Rattle.evidence.specs.Jobs.{IsOverBase}
-use Rattle.coordinator_core.proofs.NewCoordinatorLemmas.{plain_is}
+use Rattle.coordinator_core.proofs.NewCoordinatorLemmas.{narrow_tree, plain_is}
 use Rattle.honest_cluster.specs.declared.event.ClosedEvent.{ClosedEvent}
 use Rattle.honest_cluster.specs.ClosedSchedule.{Beginning, ClosedState, HappensClosed, RunsClosed, new_closed, verdict_at}
 use Rattle.honest_cluster.specs.ClosedLaws.{AlwaysRight, ClosedIsJoined, OneFormula}
@@ -19,11 +20,11 @@ use Rattle.cluster.specs.Closed.{AllHoldRight, HasJoinedIfClosed, IsReached}
 
 -- the moment at which a cluster begins
 pub new_reached : (b : Beginning) (wanted : ℕ) → IsFormula b.formula → AreOf b.formula b.definitions → b.definitions.wanted ≡ wanted → IsTree b.tree
-    → ((B : Cnf) → IsBaseWith b.formula wanted B → All (IsOverBase B) b.tree) → (1 ≤ b.workers) × (b.workers ≤ 64) → IsReached (new_closed b)
-new_reached b wanted formula defined as_wanted is_tree inside few =
+    → ((B : Cnf) → IsBaseWith b.formula wanted B → All (IsOverBase B) b.tree) → (1000000 < b.formula.vars → All (All (IsWithin 2000000)) b.tree) → (1 ≤ b.workers) × (b.workers ≤ 64) → IsReached (new_closed b)
+new_reached b wanted formula defined as_wanted is_tree inside narrow few =
     let all : AreDefined b.formula wanted [] b.definitions.pairs = subst (λ (n : ℕ). AreDefined b.formula n [] b.definitions.pairs) as_wanted defined.defined in
     let over : All (IsOverBase (base_with b.formula b.definitions.pairs)) b.tree = inside _ (record { pairs = b.definitions.pairs; defined = all; is = refl }) in
-    record { beginning = b; moment = first_moment b formula defined (record { is_tree = is_tree; inside = over }) few.0 few.1 }
+    record { beginning = b; moment = first_moment b formula defined (record { is_tree = is_tree; inside = over; narrow = narrow_tree b.formula b.definitions b.tree defined over narrow }) few.0 few.1 }
 
 abbrev begins_with : Cnf → Definitions → List Cube → ℕ → ℕ → Beginning
 begins_with F d tree limit workers = record { formula = F; definitions = d; tree = tree; limit = limit; workers = workers }

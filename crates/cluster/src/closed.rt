@@ -1,8 +1,9 @@
 //! A cluster under a closed schedule: each frame that is delivered was sent by one of its nodes, and each restart is under a number that no
 //! node has used.
 
-ghost use Rattle.std.specs.Prelude.{◌≡◌, ◌≢◌, ◌≤◌, ℕ, All, IfOk, IfSome, option_copied};
+ghost use Rattle.std.specs.Prelude.{◌≡◌, ◌<◌, ◌≢◌, ◌≤◌, ℕ, All, IfOk, IfSome, option_copied};
 ghost use Rattle.dimacs.specs.logic.Cnf.{Cnf};
+ghost use Rattle.dimacs.specs.logic.Literal.{IsWithin};
 ghost use Rattle.lrat_check.specs.Verdicts.{Right};
 ghost use Rattle.lrat_check.specs.declared.verdict.Reaction.TheVariants as reaction;
 ghost use Rattle.cube_split.specs.Pairs.{AreOf, Definitions, IsBaseWith, no_definitions};
@@ -46,8 +47,8 @@ impl Drop for ClosedCluster {
 
 impl ClosedCluster {
     /// A cluster at its beginning: a coordinator in session 1, and workers 1 to `workers`, worker w in incarnation w + 1, which have sent
-    /// no frame. Each Task will have this limit. The tree has to be over the formula's variables, and there are 1 to 64 workers. An error
-    /// is want of memory.
+    /// no frame. Each Task will have this limit. The tree has to be over the formula's variables, and over those of frames if they are more
+    /// than 1,000,000; and there are 1 to 64 workers. An error is want of memory.
     pub fn new(
         alloc: Global,
         formula: &Formula,
@@ -56,14 +57,18 @@ impl ClosedCluster {
         workers: u32,
     ) -> Result<ClosedCluster, AllocError>
         requires inside { All (IsOverBase formula.now) tree }
+        requires narrow { 1000000 < formula.now.vars → All (All (IsWithin 2000000)) tree }
         requires workers { (1 ≤ workers) × (workers ≤ 64) }
         ensures { IfOk result (λ c. c ≡ new_closed (record { formula = formula.now; definitions = no_definitions; tree = tree; limit = limit; workers = workers })) }
     {
         ClosedCluster::with_defs(alloc, formula, tree, limit, workers, 0)
     }
 
-    /// A cluster at its beginning, as `new` makes it, over a base with `defs` definitions, 0 to 64, or fewer if no further pair of literals
-    /// can be defined. All nodes share the definitions. The tree has to be over the base's variables. An error is want of memory.
+    /// A cluster at its beginning: a coordinator in session 1, and workers 1 to `workers`, worker w
+    /// in incarnation w + 1, over a base with `defs` definitions, 0 to 64, or fewer if no further
+    /// pair of literals can be defined. All nodes share the definitions. The tree has to be over
+    /// the base's variables, and over those of frames if the formula has more than 1,000,000. An
+    /// error is want of memory.
     pub fn with_defs(
         alloc: Global,
         formula: &Formula,
@@ -73,6 +78,7 @@ impl ClosedCluster {
         defs: u32,
     ) -> Result<ClosedCluster, AllocError>
         requires inside { (B : Cnf) → IsBaseWith formula.now defs B → All (IsOverBase B) tree }
+        requires narrow { 1000000 < formula.now.vars → All (All (IsWithin 2000000)) tree }
         requires workers { (1 ≤ workers) × (workers ≤ 64) }
         requires defs { defs ≤ 64 }
         ensures { IfOk result (λ c. (d : Definitions) × AreOf formula.now d × (d.wanted ≡ defs)

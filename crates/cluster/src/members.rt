@@ -1,7 +1,8 @@
 //! The members of a closed cluster: its coordinator and its workers.
 
-ghost use Rattle.std.specs.Prelude.{◌≡◌, ◌≤◌, [], All, IfOk, OnOk, OnErr, MatchBool, nat_le, length, option_copied};
+ghost use Rattle.std.specs.Prelude.{◌≡◌, ◌<◌, ◌≤◌, [], All, IfOk, OnOk, OnErr, MatchBool, nat_le, length, option_copied};
 ghost use Rattle.dimacs.specs.logic.Cnf.{Cnf};
+ghost use Rattle.dimacs.specs.logic.Literal.{IsWithin};
 ghost use Rattle.cube_split.specs.Pairs.{AreOf, Definitions, IsBaseWith};
 ghost use Rattle.evidence.specs.Events.{Delivered, Worked, Polled, Reacted, given_by};
 ghost use Rattle.evidence.specs.Jobs.{IsOverBase};
@@ -35,7 +36,9 @@ impl Drop for Members {
     }
 }
 
-/// Workers 1 to `count` with `defs` definitions of the formula, worker w in incarnation w + 1. An error is want of memory.
+/// Workers 1 to `count` with `defs` definitions of the formula. Worker w is in incarnation w + 1,
+/// since no two nodes share a number and the coordinator's session is 1. An error is want of
+/// memory.
 fn workers_of(
     alloc: Global,
     formula: &Formula,
@@ -70,6 +73,7 @@ impl Members {
         defs: u32,
     ) -> Result<Members, AllocError>
         requires inside { (B : Cnf) → IsBaseWith formula.now defs B → All (IsOverBase B) tree }
+        requires narrow { 1000000 < formula.now.vars → All (All (IsWithin 2000000)) tree }
         requires workers { (1 ≤ workers) × (workers ≤ 64) }
         requires defs { defs ≤ 64 }
         ensures { IfOk result (AreNew formula.now tree limit workers defs) }
@@ -83,14 +87,15 @@ impl Members {
         })
     }
 
-    /// Tells whether there is a node of this number.
+    /// Tells whether there is a node of this number: 0 is the coordinator, and node i the i-th
+    /// worker.
     pub(crate) fn has(&self, node: usize) -> bool
         ensures { result ≡ nat_le node (length self.now.workers.items) }
     {
         node <= self.workers.len()
     }
 
-    /// Delivers a frame to a node, and answers the node's reaction.
+    /// Delivers a frame to a node, 0 for the coordinator, and answers the node's reaction.
     pub(crate) fn deliver(&mut self, node: usize, frame: &Frame) -> Reaction
         requires { IsMember self.old node }
         ensures { MemberSteps self.old node (Delivered frame.now) (Reacted result) self.new }
@@ -147,7 +152,7 @@ impl Members {
         Ok(())
     }
 
-    /// The verdict that a node holds; `None` if there is no such node.
+    /// The verdict that a node holds, 0 for the coordinator; `None` if there is no such node.
     pub(crate) fn verdict(&self, node: usize) -> Option<&Verdict>
         ensures { option_copied result ≡ verdict_at (closed_of self.now [] []) node }
     {

@@ -124,8 +124,8 @@ impl Node {
         }
     }
 
-    /// Restarts the node from its formula, under another number; its verdict and work are dropped. `NoMemory` if memory for a coordinator
-    /// is refused, which is then unchanged.
+    /// Restarts the node from its formula, without verdict and work, under this number: a worker's
+    /// incarnation, or a coordinator's session. `NoMemory` leaves a coordinator unchanged.
     pub fn restart(&mut self, number: u64) -> Reaction
         ensures { Restarts self.old number result self.new }
     {
@@ -153,7 +153,8 @@ impl Node {
         }
     }
 
-    /// Plays an event at this node, and answers the node's reaction; the node is sound after it.
+    /// Plays an event at this node, and answers the node's reaction. It has also the contract that
+    /// the node is sound after it.
     pub(crate) fn react(&mut self, alloc: Global, event: &OpenEvent) -> Reaction
         ensures reacts { Reacts event.now self.old result self.new }
         ensures sound { IsSound self.new }
@@ -164,7 +165,7 @@ impl Node {
         answer
     }
 
-    /// Plays an event at this node, and answers the node's reaction.
+    /// Plays an event at this node, by the call of its kind, and answers the node's reaction.
     fn play(&mut self, alloc: Global, event: &OpenEvent) -> Reaction
         ensures { Reacts event.now self.old result self.new }
     {
@@ -182,7 +183,8 @@ impl Node {
     }
 }
 
-/// The reaction to a poll with this result, whose frame is dropped: `Taken`, or `NoMemory` if memory was refused.
+/// The reaction to a poll with this result: `Taken`, or `NoMemory` if memory was refused. The frame
+/// is dropped, since an open schedule delivers any bytes.
 fn poll_reaction(sent: &Result<Frame, AllocError>) -> Reaction
     ensures { result ≡ answer_to sent.now }
 {

@@ -1,8 +1,9 @@
 //! The state of a closed schedule, and how its events change that.
 
-ghost use Rattle.std.specs.Prelude.{◌≡◌, ◌+◌, ◌≤◌, All, IfOk};
+ghost use Rattle.std.specs.Prelude.{◌≡◌, ◌<◌, ◌+◌, ◌≤◌, All, IfOk};
 ghost use Rattle.dimacs.specs.logic.Base.{numbers_from};
 ghost use Rattle.dimacs.specs.logic.Cnf.{Cnf};
+ghost use Rattle.dimacs.specs.logic.Literal.{IsWithin};
 ghost use Rattle.cube_split.specs.Pairs.{AreOf, Definitions, IsBaseWith};
 ghost use Rattle.evidence.specs.Jobs.{IsOverBase};
 ghost use Rattle.honest_cluster.specs.ClosedSchedule.{HappensClosed, HappensDeliver, HappensWork, HappensPoll, HappensRestart, new_closed};
@@ -58,6 +59,7 @@ impl Schedule {
         defs: u32,
     ) -> Result<Schedule, AllocError>
         requires inside { (B : Cnf) → IsBaseWith formula.now defs B → All (IsOverBase B) tree }
+        requires narrow { 1000000 < formula.now.vars → All (All (IsWithin 2000000)) tree }
         requires workers { (1 ≤ workers) × (workers ≤ 64) }
         requires defs { defs ≤ 64 }
         ensures { IfOk result (λ s. (d : Definitions) × AreOf formula.now d × (d.wanted ≡ defs)

@@ -1,4 +1,4 @@
--- What the words of a command line ask for, by the rules of `clap`.
+-- The request that the words of a command line make, by the rules of `clap`. A row has the values that the words give to one name.
 use Rattle.std.specs.Prelude.{◌≡◌, ◌⊎◌, ℕ, ◌-◌, ◌^◌, ◌≤◌, nat_le, List, [], ◌∷◌, length, map, Bool, true, false, not, Option, Some, None, option_map, codes, IfSome, if◌then◌else◌, ⊤}
 use Rattle.std.specs.Borrow.{Bor}
 use Rattle.std.specs.Str.Parse.{IsNumeral, digits_value, without_leading_plus}
@@ -16,72 +16,73 @@ use Rattle.command_line.specs.declared.request.Request.TheVariants.{Check, Compl
 use Rattle.command_line.specs.declared.request.UsageFault.{UsageFault}
 use Rattle.command_line.specs.declared.request.UsageFault.TheVariants.{Help, NoMemory, Usage}
 
--- the text is a number of the range in decimal digits, perhaps with a plus before them
+-- a text spells a number of the range in decimal digits, perhaps after a plus
 pub record IsNumber (low high : ℕ) (text : Text) (number : ℕ) : Type 0 where
   pub numeral : IsNumeral 10 (without_leading_plus text)
   pub value : number ≡ digits_value 10 (without_leading_plus text)
   pub least : low ≤ number
   pub most : number ≤ high
 
--- the number in a range that the words give to an option
+-- the words give this number of the range to an option
 pub record NamesNumber (rows : List Row) (name : Text) (low high : ℕ) (number : ℕ) : Type 0 where
   pub written : Text
   pub given : first_of name rows ≡ Some written
   pub read : IsNumber low high written number
 
--- the number in a range that the words give to an option, or the usual one if the option is left out or the command has none such
+-- the words give this number of the range to an option, or nothing, and it is the usual one
 pub record NamesNumberOr (rows : List Row) (name : Text) (low high usual : ℕ) (number : ℕ) : Type 0 where
   pub given : (written : Text) → first_of name rows ≡ Some written → IsNumber low high written number
   pub left_out : first_of name rows ≡ None → number ≡ usual
 
--- the words give nothing to an option
+-- the words give nothing to a name
 abbrev pub NamesNothing : List Row → Text → Type 0
 NamesNothing rows name = first_of name rows ≡ None
 
--- the number in a range that the words give to an option, or that they give it none
+-- the words give this number of the range to an option, or nothing, and it is None
 abbrev pub NamesAnyNumber : List Row → Text → ℕ → ℕ → Option ℕ → Type 0
 NamesAnyNumber rows name low high None = NamesNothing rows name
 NamesAnyNumber rows name low high (Some number) = NamesNumber rows name low high number
 
--- the words say of a flag that it is given, or that it is not
+-- the words give a flag, and `given` is true, or they do not, and it is false
 pub record NamesFlag (rows : List Row) (name : Text) (given : Bool) : Type 0 where
   pub yes : one_of name rows ≡ Some (codes "true") → given ≡ true
   pub no : one_of name rows ≡ Some (codes "false") → given ≡ false
   pub none : one_of name rows ≡ None → given ≡ false
 
--- the file that the words name, or that they name none
+-- the words give this file to a name, or nothing, and it is None
 abbrev pub NamesFile : List Row → Text → Option (Bor Text) → Type 0
 NamesFile rows name file = first_of name rows ≡ option_map (λ t. t.now) file
 
--- the files that the words name, all of them in their order: one at least
+-- the words give these files to a name, in their order: one at least
 pub record NamesFiles (rows : List Row) (name : Text) (files : List (Bor Text)) : Type 0 where
   pub given : all_of name rows ≡ Some (map (λ t. t.now) files)
   pub some : 1 ≤ length files
 
--- the words ask that nothing be written
+-- the words give `--dry`: nothing is written
 abbrev pub IsDry : List Row → Type 0
 IsDry rows = first_of (codes "dry") rows ≡ Some (codes "true")
 
--- the files to be joined, one at least: all that the words name with `--dry`, and else those after the first one, to which a proof goes
+-- the words give these files to be joined, one at least: all names with `--dry`, and else those after the first one, to which the proof is
+-- written
 abbrev pub NamesJoined : List Row → Option (Bor Text) → List (Bor Text) → Type 0
 NamesJoined rows None files = IsDry rows × NamesFiles rows (codes "NAME") files
 NamesJoined rows (Some proof) files = (IsDry rows → ⊥) × NamesFiles rows (codes "NAME") (proof ∷ files) × (1 ≤ length files)
 
--- which leaf the words name, by its number
+-- the words give the number of this leaf
 abbrev pub NamesLeaf : List Row → ℕ → Type 0
 NamesLeaf rows leaf = NamesNumber rows (codes "leaf") 1 (2 ^ 32 - 1) leaf
 
--- what the words say is left out of what is printed: `c` lines, and `v` lines
+-- the words ask for this printing: whether `c` lines are left out, and whether `v` lines are printed
 pub record NamesPrinting (rows : List Row) (printing : Printing) : Type 0 where
   pub quiet_is : NamesFlag rows (codes "quiet") printing.quiet
   pub witness_is : NamesFlag rows (codes "no-witness") (not printing.witness)
 
--- how deep a run splits the formula if its words do not say it: at a port by how many workers there may be
+-- the depth to which a run splits the formula if its words do not give it: at a port by the number of workers
 abbrev pub usual_depth : Place → ℕ → ℕ
 usual_depth Here workers = 4
 usual_depth AtPort workers = if nat_le workers 1 then 6 else (if nat_le workers 8 then 8 else 10)
 
--- the options of a run, each by its word; the usual one where the command has no such word
+-- the words of a run give these options; one that they do not give, or that the command does not have, is the usual one
 pub record NamesOptions (place : Place) (rows : List Row) (options : Options) : Type 0 where
   pub workers_is : NamesNumberOr rows (codes "workers") 1 64 2 options.workers
   pub depth_is : NamesNumberOr rows (codes "depth") 0 16 (usual_depth place options.workers) options.depth
@@ -98,7 +99,7 @@ pub record NamesOptions (place : Place) (rows : List Row) (options : Options) : 
   pub quiet_is : NamesFlag rows (codes "quiet") options.quiet
   pub witness_is : NamesFlag rows (codes "no-witness") (not options.witness)
 
--- the words of a command of this name, of which these rows are made, say what the request does
+-- the words of the command of this name, with these rows, make the request
 abbrev pub Makes : Text → List Row → Request → Type 0
 Makes name rows (Check input proof session) =
     (name ≡ codes "check") × NamesFile rows (codes "INPUT") (Some input) × NamesFile rows (codes "PROOF") (Some proof)
@@ -163,48 +164,56 @@ Makes name rows (Session input proof limit witness) =
     (name ≡ codes "session") × NamesFile rows (codes "INPUT") (Some input) × NamesAnyNumber rows (codes "limit") 1 1000000000 limit
     × NamesFile rows (codes "PROOF") proof × NamesFlag rows (codes "no-witness") (not witness)
 
--- the words are right by the rules of the command line
+-- the words are within the rules of the command line
 pub record AreTaken (words : List Text) : Type 0 where
   pub by_rules : takes program words ≡ true
 
--- a parse of the words meets no fault
+-- a parse of the words finds no fault
 abbrev pub IsParsed : List Text → Type 0
 IsParsed words = fault_of program words ≡ []
 
--- the words ask for what the request says: they name its command, and after it what the request holds
+-- the words make the request: they name its command, and give what it has
 pub record AsksFor (words : List Text) (request : Request) : Type 0 where
   pub name : Text
   pub rows : List Row
   pub command : subcommand_of program words ≡ Some (name, rows)
   pub makes : Makes name rows request
 
--- the words ask for help: a parse of them ends there, if not for want of memory
+-- the words say whether the limits on the input are the large ones; a command that has no word for it takes the written ones
+pub record SaysLarge (words : List Text) (large : Bool) : Type 0 where
+  pub name : Text
+  pub rows : List Row
+  pub command : subcommand_of program words ≡ Some (name, rows)
+  pub flag : NamesFlag rows (codes "large") large
+
+-- the words ask for help: that is the only fault that a parse finds, unless memory is refused
 abbrev pub AsksForHelp : List Text → Type 0
 AsksForHelp words = fault_of program words ≡ kind.DisplayHelp ∷ []
 
--- the words ask for the version, in the same way
+-- the words ask for the version: that is the only fault that a parse finds, unless memory is refused
 abbrev pub AsksForVersion : List Text → Type 0
 AsksForVersion words = fault_of program words ≡ kind.DisplayVersion ∷ []
 
--- why words give no request
+-- a refusal of words is right: a text to print only if they ask for help or the version; `Usage` only if they do not ask for that alone;
+-- refused memory for any words
 abbrev pub IsRefusal : List Text → UsageFault → Type 0
 IsRefusal words (Help text) = IsAmong kind.DisplayHelp (fault_of program words) ⊎ IsAmong kind.DisplayVersion (fault_of program words)
 IsRefusal words Usage = (AsksForHelp words → ⊥) × (AsksForVersion words → ⊥)
 IsRefusal words NoMemory = ⊤
 
--- the number is one of a port
+-- a number's property: it is that of a port
 abbrev pub IsPort : ℕ → Type 0
 IsPort port = (1 ≤ port) × (port ≤ 65535)
 
--- the number is one of a leaf
+-- a number's property: it is that of a leaf
 abbrev pub IsLeafNumber : ℕ → Type 0
 IsLeafNumber leaf = (1 ≤ leaf) × (leaf ≤ 2 ^ 32 - 1)
 
--- the number is one of a variable
+-- a number's property: it is that of a variable
 abbrev pub IsVariable : ℕ → Type 0
 IsVariable variable = (1 ≤ variable) × (variable ≤ 2 ^ 31 - 1)
 
--- the number is one of lemmas that a query of a session may have
+-- a number's property: it is a limit of lemmas of a query
 abbrev pub IsSessionLimit : ℕ → Type 0
 IsSessionLimit limit = (1 ≤ limit) × (limit ≤ 1000000000)
 

@@ -1,8 +1,9 @@
--- Which options a command line can name.
+-- The ranges of a run's options.
 use Rattle.std.specs.Prelude.{◌≤◌}
 use Rattle.command_line.specs.declared.options.Options.{Options}
 
--- 1 to 64 workers, a depth of at most 16, a limit from 1 to 1,000,000,000, a worker's number from 1 to 64, and at most 64 definitions
+-- the options are in their ranges: 1 to 64 workers, a depth of at most 16, a limit from 1 to 1,000,000,000, a worker's number from 1 to 64,
+-- and at most 64 definitions
 pub record AreOptions (options : Options) : Type 0 where
   pub some_worker : 1 ≤ options.workers
   pub few_workers : options.workers ≤ 64

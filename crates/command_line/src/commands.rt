@@ -1,4 +1,4 @@
-//! The words of the commands, a file each, and what they share.
+//! The commands, a file each, and the words that several of them share.
 
 pub(crate) mod check;
 pub(crate) mod cover;
@@ -16,5 +16,5 @@ pub(crate) mod serve;
 pub(crate) mod session;
 pub(crate) mod solve;
 pub(crate) mod trim;
-mod words;
+pub(crate) mod words;
 pub(crate) mod work;

@@ -1,7 +1,7 @@
-//! The words of the program: what a command line asks for, and why it asks for nothing.
+//! The command line of the program: the request that its words make, or why they make none.
 //!
-//! What a layer above may rest on: `command` gives the request that the words make by the rules of the command line, its numbers
-//! are in their ranges, and words that ask for something are refused for want of memory alone.
+//! What a layer above may rest on: `command` returns the request that the words make by the rules of the command line, its numbers are in
+//! their ranges, and words that make a request are refused only if memory is.
 #![tactic(auto)]
 
 mod commands;
@@ -12,5 +12,5 @@ mod request;
 
 pub use options::{Options, USUAL};
 pub use output::Printing;
-pub use parser::command;
-pub use request::{Request, UsageFault};
+pub use parser::{command, command_of};
+pub use request::{Command, Request, UsageFault};

@@ -1,6 +1,6 @@
 //! What is printed of an answer.
 
-/// What is left out of what is printed.
+/// What is printed of an answer, besides its `s` line.
 #[derive(Clone, Copy, Debug, PartialEq, Eq)]
 pub struct Printing {
     /// Whether `c` lines are left out.

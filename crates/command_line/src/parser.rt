@@ -1,26 +1,27 @@
-//! Reads the words of a command line.
+//! The parser of a command line.
 
 ghost use Rattle.std.specs.Prelude.{◌≡◌, IfOk, IfErr, IfSome, IfNone, List, Some, map, true};
 ghost use Rattle.clap.specs.Words.{Row, Text, subcommand_of, takes};
-ghost use Rattle.command_line.specs.CommandLine.{AreTaken, AsksFor, IsInRange, IsParsed, IsRefusal, Makes};
+ghost use Rattle.command_line.specs.CommandLine.{AreTaken, AsksFor, IsInRange, IsParsed, IsRefusal, Makes, SaysLarge};
 ghost use Rattle.command_line.specs.Program.{program};
 ghost use Rattle.command_line.specs.inner.Refusals.{fault_of_refusal};
 ghost use Rattle.command_line.specs.declared.request.Request.{Request};
 ghost use Rattle.option_table.specs.Refusals.{IsRefusalOf};
 ghost use Rattle.option_table.specs.Rules.{app_of_program};
 
+use crate::commands::words::is_given;
 use crate::commands::{
     check, cover, cubes, drill, join, leaf, lift, model, receipt, refute, serve, session, solve,
     trim, work,
 };
-use crate::request::{Request, UsageFault};
+use crate::request::{Command, Request, UsageFault};
 use option_table::{Found, ProgramRules, Refusal, parse};
 use std::alloc::{AllocError, Global};
 
-/// The version, and the kits that prove it.
+/// The version of the program, and the kits that prove it.
 const VERSION: &str = "0.1.0 (rattle-kit-13b or 13f, logic dac8208d650f15bf)";
 
-/// What the program does, and three examples.
+/// What help says of the program, with three examples.
 const ABOUT: &str = concat!(
     "Decides propositional formulas, with proofs that anyone can check\n\n",
     "  satcluster solve f.cnf f.lrat    decide f.cnf; a proof is written if nothing satisfies it\n",
@@ -28,7 +29,8 @@ const ABOUT: &str = concat!(
     "  satcluster model f.cnf answer    check the assignment that a solver printed",
 );
 
-/// Parses the words by these rules, which are the program's; the first word is the program's name.
+/// Parses the words of a command line by the program's rules; the first word is the program's name.
+/// Returns the command and its arguments.
 fn read_by<'a, 'r>(
     alloc: Global,
     rules: &ProgramRules<'a, 'r>,
@@ -44,7 +46,8 @@ fn read_by<'a, 'r>(
     parse(alloc, rules, words)
 }
 
-/// Parses the words.
+/// Collects the rules of all commands, and parses the words of a command line by them; the first
+/// word is the program's name. Returns the command and its arguments.
 fn given_of<'a>(alloc: Global, words: &'a [&'a str]) -> Result<Found<'a>, Refusal>
     ensures met { IfOk result (λ found. subcommand_of program (map (λ w. w.now) words.now) ≡ Some (found.name, found.rows)) }
     ensures taken { IfOk result (λ _. IsParsed (map (λ w. w.now) words.now)) }
@@ -79,7 +82,7 @@ fn given_of<'a>(alloc: Global, words: &'a [&'a str]) -> Result<Found<'a>, Refusa
     read_by(alloc, &rules, words)
 }
 
-/// The fault that a refusal stands for.
+/// The fault that a refusal of the words becomes.
 fn fault_of(refusal: Refusal) -> UsageFault
     ensures { result ≡ fault_of_refusal refusal }
 {
@@ -90,7 +93,8 @@ fn fault_of(refusal: Refusal) -> UsageFault
     }
 }
 
-/// The request that the words after a command's name make.
+/// Makes the request of a command and its parsed arguments; None if these do not make one. It is an
+/// error if memory is refused.
 fn request_of<'a>(alloc: Global, given: &Found<'a>) -> Result<Option<Request<'a>>, AllocError>
     ensures found { IfOk result (λ found. IfSome found (Makes given.now.name given.now.rows)) }
     ensures none { IfOk result (λ found. IfNone found ((request : Request) → Makes given.now.name given.now.rows request → ⊥)) }
@@ -116,7 +120,8 @@ fn request_of<'a>(alloc: Global, given: &Found<'a>) -> Result<Option<Request<'a>
     }
 }
 
-/// The request that the words make, or why there is none; the first word is the program's name.
+/// Makes the request of the words of a command line, or tells why they make none; the first word is
+/// the program's name.
 pub fn command<'a>(alloc: Global, words: &'a [&'a str]) -> Result<Request<'a>, UsageFault>
     // A request is what the words ask for, by the rules of the command line.
     ensures asks { IfOk result (AsksFor (map (λ w. w.now) words.now)) }
@@ -124,10 +129,30 @@ pub fn command<'a>(alloc: Global, words: &'a [&'a str]) -> Result<Request<'a>, U
     ensures taken { IfOk result (λ _. IsParsed (map (λ w. w.now) words.now)) }
     // Its numbers are in their ranges.
     ensures range { IfOk result IsInRange }
-    // Words that ask for something are refused for want of memory alone.
+    // Words that make a request are refused only if memory is.
     ensures complete { (request : Request) → AreTaken (map (λ w. w.now) words.now)
         → AsksFor (map (λ w. w.now) words.now) request → IfErr result (λ f. f ≡ UsageFault.NoMemory) }
-    // Help, or the version, is handed out if the words ask for it, memory aside, and nowhere else.
+    // Help, or the version, is returned if the words ask for it, unless memory is refused, and else never.
+    ensures refused { IfErr result (IsRefusal (map (λ w. w.now) words.now)) }
+{
+    match command_of(alloc, words) {
+        Ok(command) => {
+            let Command { request, large: _ } = command;
+            Ok(request)
+        }
+        Err(fault) => Err(fault),
+    }
+}
+
+/// Makes the request of the words of a command line, as `command` does, and tells whether `--large`
+/// is given.
+pub fn command_of<'a>(alloc: Global, words: &'a [&'a str]) -> Result<Command<'a>, UsageFault>
+    ensures asks { IfOk result (λ c. AsksFor (map (λ w. w.now) words.now) c.request) }
+    ensures large { IfOk result (λ c. SaysLarge (map (λ w. w.now) words.now) c.large) }
+    ensures taken { IfOk result (λ _. IsParsed (map (λ w. w.now) words.now)) }
+    ensures range { IfOk result (λ c. IsInRange c.request) }
+    ensures complete { (request : Request) → AreTaken (map (λ w. w.now) words.now)
+        → AsksFor (map (λ w. w.now) words.now) request → IfErr result (λ f. f ≡ UsageFault.NoMemory) }
     ensures refused { IfErr result (IsRefusal (map (λ w. w.now) words.now)) }
 {
     let given = match given_of(alloc, words) {
@@ -135,7 +160,10 @@ pub fn command<'a>(alloc: Global, words: &'a [&'a str]) -> Result<Request<'a>, U
         Err(refusal) => return Err(fault_of(refusal)),
     };
     match request_of(alloc, &given)? {
-        Some(request) => Ok(request),
+        Some(request) => Ok(Command {
+            request,
+            large: is_given(&given, "large"),
+        }),
         None => Err(UsageFault::Usage),
     }
 }

@@ -1,4 +1,4 @@
-//! What a command line asks for.
+//! The request that a command line makes.
 
 ghost use Rattle.std.specs.Prelude.{◌≡◌};
 ghost use Rattle.command_line.specs.declared.request.UsageFault.TheVariants.{NoMemory};
@@ -8,47 +8,47 @@ use crate::output::Printing;
 use std::alloc::AllocError;
 use thiserror::Error;
 
-/// What is to be done, and with which files.
+/// A request: what is to be done, and with which files.
 #[derive(Drop, PartialEq, Eq)]
 pub enum Request<'a> {
-    /// Decide a formula, split by the cubes of a file if one is named, and write the proof to a file if one is named.
+    /// Decide a formula. It is split by the cubes of a file if one is named, and the proof is written to a file if one is named.
     Solve {
         input: &'a str,
         cubes: Option<&'a str>,
         proof: Option<&'a str>,
         options: Options,
     },
-    /// Check a proof of a formula; or the proof of a session, if the input is what was sent.
+    /// Check a proof of a formula; or the proof of a session if `session` is true: then the input is what was sent in it.
     Check {
         input: &'a str,
         proof: &'a str,
         session: bool,
     },
-    /// Split a formula into cubes, as deep as this, from 0 to 16.
+    /// Split a formula into cubes of at most `depth` literals, from 0 to 16.
     Cubes {
         input: &'a str,
         depth: u32,
     },
-    /// Split a formula by looks ahead into about so many leaves, from 1 to 65,536.
+    /// Split a formula by lookahead into about `leaves` leaves, from 1 to 65,536.
     Look {
         input: &'a str,
         leaves: u32,
     },
-    /// Cut a leaf in two, by its number among the cubes of a file, from 1 to 4,294,967,295, on this variable, from 1 to 2 ^ 31 - 1, or
-    /// on one that is chosen.
+    /// Cut a leaf in two, by its number among the cubes of a file, from 1 to 4,294,967,295, on the variable `on`, from 1 to 2^31 - 1, or on
+    /// one that the rule chooses.
     Split {
         input: &'a str,
         cubes: &'a str,
         leaf: u32,
         on: Option<u32>,
     },
-    /// Cut a leaf in two, by its number among the cubes of a file, from 1 to 4,294,967,295, by a look ahead.
+    /// Cut a leaf in two by lookahead, by the leaf's number among the cubes of a file, from 1 to 4,294,967,295.
     SplitByLook {
         input: &'a str,
         cubes: &'a str,
         leaf: u32,
     },
-    /// Complete the cubes that a file lists, in any order, to a splitting tree.
+    /// Complete the cubes that the file `list` has, in any order, to a splitting tree.
     Complete {
         input: &'a str,
         list: &'a str,
@@ -61,15 +61,14 @@ pub enum Request<'a> {
         proof: Option<&'a str>,
         options: Options,
     },
-    /// Work for whoever serves this formula at this port of 127.0.0.1, from 1 to 65,535, and write the proof to a file where one
-    /// is named.
+    /// Work for whoever serves this formula at this port of 127.0.0.1, from 1 to 65,535. The proof is written to a file if one is named.
     Work {
         port: u16,
         input: &'a str,
         proof: Option<&'a str>,
         options: Options,
     },
-    /// Play as many turns of a cluster of this formula, from 0 to 100,000, as are drawn from the seed.
+    /// Play `turns` turns of a cluster of this formula, from 0 to 100,000, which are drawn from the seed.
     Drill {
         input: &'a str,
         seed: u64,
@@ -81,8 +80,8 @@ pub enum Request<'a> {
         cubes: &'a str,
         leaf: u32,
     },
-    /// Search under a leaf, by its number among the cubes of a file, from 1 to 4,294,967,295, or under each from it to another one, in
-    /// turn. A search learns as many lemmas as this at most, from 1 to 2 ^ 47. The fragment is written to a file if one is named.
+    /// Search under a leaf, by its number among the cubes of a file, from 1 to 4,294,967,295, or under each leaf from it to `to`, in turn.
+    /// A search learns at most `limit` lemmas, from 1 to 2^47. The fragment is written to a file if one is named.
     Refute {
         input: &'a str,
         cubes: &'a str,
@@ -93,8 +92,8 @@ pub enum Request<'a> {
         printing: Printing,
         binary: bool,
     },
-    /// Join the fragments of all leaves, one file of them at least, into a proof. It is written to a file if one is named. A name `-`
-    /// stands for the names that standard input lists.
+    /// Join the fragments of all leaves, from at least one file, into a proof, which is written to a file if one is named. A name `-`
+    /// stands for the names that are on standard input.
     Join {
         input: &'a str,
         cubes: &'a str,
@@ -103,9 +102,9 @@ pub enum Request<'a> {
         printing: Printing,
         binary: bool,
     },
-    /// Make a fragment of a proof and write it to a file: of one of the formula of a leaf, by its number among the cubes of a file, from
-    /// 1 to 4,294,967,295; or of a LIDRUP text for all of these cubes, or for those of the leaves from one number to another. The words may
-    /// name any of the three.
+    /// Make a fragment of INPUT and write it to a file: from a proof of the formula of a leaf, by its number among the cubes of a file,
+    /// from 1 to 4,294,967,295; or from a LIDRUP text for all of these cubes, or for those of the leaves from `leaf` to `to`. Any of
+    /// `leaf`, `to` and `lidrup` may be given here; the run refuses what does not go together.
     Lift {
         input: &'a str,
         cubes: &'a str,
@@ -121,30 +120,30 @@ pub enum Request<'a> {
         input: &'a str,
         output: &'a str,
     },
-    /// Write what is needed of a proof to a file.
+    /// Write the part of a proof that its empty clause needs to a file.
     Trim {
         input: &'a str,
         proof: &'a str,
         out: &'a str,
         binary: bool,
     },
-    /// Check a log over the formula, and write to a file which of its clauses close leaves.
+    /// Check a log over the formula, and write to a file which of the log's clauses close leaves.
     Receipt {
         input: &'a str,
         cubes: &'a str,
         log: &'a str,
         receipt: &'a str,
     },
-    /// Tell whether receipts, one at least, close all leaves; `c` lines may be left out. A name `-` stands for the names that standard
-    /// input lists.
+    /// Test whether receipts, at least one, close all leaves; `quiet` leaves out `c` lines. A name `-` stands for the names that are on
+    /// standard input.
     Cover {
         input: &'a str,
         cubes: &'a str,
         receipts: Vec<&'a str>,
         quiet: bool,
     },
-    /// Answer the queries between clauses that are given, line by line, and write the proof of all answers to a file if one is named. A
-    /// query may have so many lemmas, from 1 to 1,000,000,000, or any number; `v` and `f` lines may be left out.
+    /// Answer the queries between clauses that are given, line by line. The proof of all answers is written to a file if one is named. A
+    /// query may have `limit` lemmas, from 1 to 1,000,000,000, or any number; if `witness` is false, `v` and `f` lines are left out.
     Session {
         input: &'a str,
         proof: Option<&'a str>,
@@ -153,7 +152,14 @@ pub enum Request<'a> {
     },
 }
 
-/// Why a command line gives no request.
+/// A request, and whether the limits on its input are the large ones.
+#[derive(Drop, PartialEq, Eq)]
+pub struct Command<'a> {
+    pub request: Request<'a>,
+    pub large: bool,
+}
+
+/// Why a command line makes no request.
 #[derive(Debug, Drop, Error)]
 pub enum UsageFault {
     /// Help was asked for, or the version: the text to print.
@@ -162,7 +168,7 @@ pub enum UsageFault {
     /// The words are refused.
     #[error("the words are refused")]
     Usage,
-    /// A growth was refused.
+    /// Memory was refused.
     #[error("no memory")]
     NoMemory,
 }

@@ -4,6 +4,7 @@ use Rattle.std.specs.Prelude.{IsTrue}
 use Rattle.cube_solve.specs.Session.{IfUnknown, IsRightAnswer}
 use Rattle.cube_solve.specs.declared.answer.Answer.{Answer}
 use Rattle.cube_solve.specs.declared.answer.Answer.TheVariants as answer
+use Rattle.dimacs.specs.logic.Limits.{Limits}
 use Rattle.dimacs.specs.logic.Cnf.{AreWithin}
 use Rattle.dimacs.specs.logic.Literal.{Clause, Literal, IsWithin}
 use Rattle.sessions.specs.Answers.{Event, Given, Asked}
@@ -18,7 +19,7 @@ use Rattle.commands.specs.SessionLines.{answer_text, cut, status_of}
 use Rattle.commands.specs.SessionMoments.{GivesUp, IsAnswered, IsCutShort, Moment, last_proof, moment, told_all}
 use Rattle.commands.specs.declared.session_loop.Asking.{Asking}
 use Rattle.commands.specs.declared.session_loop.Run.{Run}
-use Rattle.commands.specs.inner.SessionLoop.{HasWritten, IsHandedOut, IsLeftOf, IsPaused, IsRunning}
+use Rattle.commands.specs.inner.SessionLoop.{HasWritten, IsHandedOut, IsLeftOf, GoesOnOrIsUnheard, IsRunning}
 use Rattle.commands.specs.inner.EventSource.{HasHeard, Hears}
 use Rattle.commands.proofs.AnsweringLemmas.{gives_up, left_so, left_with, running_clause, running_query}
 use Rattle.commands.proofs.CutLemmas.{clauses_up_to, right_cut}
@@ -40,11 +41,11 @@ clauses_before (Given C ∷ E) A = ap (λ (F : List Clause). C ∷ F) (clauses_b
 clauses_before (Asked B ∷ E) A = clauses_before E A
 
 -- a query is given up after as many lemmas as the limit allows
-limited : {P : Type 0} (a : Answer) (limit : ℕ) (E : List Event) (A : List Literal) (told : Told) (text more : List ℕ) (s t : Session P) → HasHistory E told text s → HasHistory (E ++ Asked A ∷ []) (told ++ told_of a ∷ []) text t
-    → t.out.items ≡ s.out.items ++ more → IfUnknown a (last_in t ≡ last_in s + limit) → IfUnknown a (GivesUp limit E A told (text ++ t.out.items))
-limited (answer.Satisfied values) limit E A told text more s t h k grows last = tt
-limited (answer.Failed failure) limit E A told text more s t h k grows last = tt
-limited answer.Unknown limit E A told text more s t h k grows last = gives_up limit E A told text more s t h k grows last
+limited : {P : Type 0} (L : Limits) (a : Answer) (limit : ℕ) (E : List Event) (A : List Literal) (told : Told) (text more : List ℕ) (s t : Session P) → HasHistory L E told text s → HasHistory L (E ++ Asked A ∷ []) (told ++ told_of a ∷ []) text t
+    → t.out.items ≡ s.out.items ++ more → IfUnknown a (last_in t ≡ last_in s + limit) → IfUnknown a (GivesUp L limit E A told (text ++ t.out.items))
+limited L (answer.Satisfied values) limit E A told text more s t h k grows last = tt
+limited L (answer.Failed failure) limit E A told text more s t h k grows last = tt
+limited L answer.Unknown limit E A told text more s t h k grows last = gives_up L limit E A told text more s t h k grows last
 
 -- what is printed stands alone in the text
 pub printed_is : (text items old : List ℕ) (witness : Bool) (vars n : ℕ) (a : Answer) → text ≡ items → items ≡ old ++ answer_text witness (cut vars a) → old ≡ [] → vars ≡ n → text ≡ answer_text witness (cut n a)
@@ -56,8 +57,8 @@ module _ {B P : Type 0} (all : Option (List ℕ)) (remaining : B → Option (Lis
   is_answered : (has : List ℕ → List Moment → Type 0) (A : List Literal) (a : Answer) (m : Moment) (x : Run B) (s : Session P) (r : IsRunning all remaining has (Some (Asked A)) x s)
       → x.events.greatest ≤ vars_in s → All (IsWithin x.events.greatest) A → IsRightAnswer (vars_in s) (clauses_of r.events) A a
       → m.printed ≡ answer_text x.asking.witness (cut x.events.greatest a)
-      → IsAccepted (r.events ++ Asked A ∷ []) (told_all r.answers ++ told_of a ∷ []) m.proof
-      → IfUnknown a (GivesUp x.asking.limit r.events A (told_all r.answers) m.proof)
+      → IsAccepted x.asking.limits (r.events ++ Asked A ∷ []) (told_all r.answers ++ told_of a ∷ []) m.proof
+      → IfUnknown a (GivesUp x.asking.limits x.asking.limit r.events A (told_all r.answers) m.proof)
       → IsAnswered x.asking r.events A (told_all r.answers) a m
   is_answered has A a m x s r less within right printed accepted limit =
       let h = r.hears.heard_so in
@@ -66,7 +67,7 @@ module _ {B P : Type 0} (all : Option (List ℕ)) (remaining : B → Option (Lis
       let few : AreWithin n (clauses_of r.events) =
       let Q : List Clause → Type 0 = λ F. AreWithin n F in
       let R : ℕ → Type 0 = λ g. g ≤ n in
-      subst Q (clauses_before r.events A) (clauses_up_to n E (subst R h.greatest_is (omega arith)) h.within) in
+      subst Q (clauses_before r.events A) (clauses_up_to x.asking.limits.vars n E (subst R h.greatest_is (omega arith)) h.within) in
       let S : ℕ → Type 0 = λ g. IsRightAnswer g (clauses_of r.events) A (cut g a) in
       let T : ℕ → Type 0 = λ g. m.printed ≡ answer_text x.asking.witness (cut g a) in
       record {
@@ -79,10 +80,10 @@ module _ {B P : Type 0} (all : Option (List ℕ)) (remaining : B → Option (Lis
   -- the answer was printed, or only a front of it
   printed_so : (after : List ℕ → List Moment → Type 0) (unheard : Type 0) (has : List ℕ → List Moment → Type 0) (A : List Literal) (a : Answer) (text proof : List ℕ) (b : Bool) (x y : Run B) (s t : Session P)
       (r : IsRunning all remaining has (Some (Asked A)) x s) → y.events ≡ x.events → y.asking ≡ x.asking → y.status ≡ status_of a
-      → HasHistory (r.events ++ Asked A ∷ []) (told_all r.answers ++ told_of a ∷ []) proof t → IsAnswered x.asking r.events A (told_all r.answers) a (moment text proof)
+      → HasHistory x.asking.limits (r.events ++ Asked A ∷ []) (told_all r.answers ++ told_of a ∷ []) proof t → IsAnswered x.asking r.events A (told_all r.answers) a (moment text proof)
       → (IsTrue b → after proof (r.moments ++ moment text proof ∷ []))
       → (b ≡ false → (front : List ℕ) × (rest : List ℕ) × (text ≡ front ++ rest) × after proof (r.moments ++ moment front proof ∷ [])) → (b ≡ false → unheard)
-      → IsPaused all remaining after unheard b y t
+      → GoesOnOrIsUnheard all remaining after unheard b y t
   unfolding running_query
   printed_so after unheard has A a text proof true x y s t r events asking status stands answered whole front refused =
       running_query all remaining has after A a (moment text proof) x y s t r events asking status stands answered (whole refl)
@@ -103,39 +104,40 @@ module _ {B P : Type 0} (all : Option (List ℕ)) (remaining : B → Option (Lis
   pub query_goes : {O : Type 0} (has : O → List ℕ → List Moment → Type 0) (unheard : O → Type 0) (old new last : O) (A q : List Literal) (a : Answer) (b : Bool) (text : List ℕ) (x y : Run B) (s one t : Session P)
       (r : IsRunning all remaining (has old) (Some (Asked A)) x s) → q ≡ A → y.events ≡ x.events → y.asking ≡ x.asking → y.status ≡ status_of a
       → x.events.greatest ≤ vars_in s → All (IsWithin x.events.greatest) A
-      → ((E : List Event) (told : Told) (bytes : List ℕ) → HasHistory E told bytes s → HasHistory (E ++ Asked q ∷ []) (told ++ told_of a ∷ []) bytes one)
-      → ((E : List Event) (told : Told) (bytes : List ℕ) → HasHistory E told bytes s → IsRightAnswer (vars_in s) (clauses_of E) q a)
+      → ((L : Limits) (E : List Event) (told : Told) (bytes : List ℕ) → HasHistory L E told bytes s → HasHistory L (E ++ Asked q ∷ []) (told ++ told_of a ∷ []) bytes one)
+      → ((L : Limits) (E : List Event) (told : Told) (bytes : List ℕ) → HasHistory L E told bytes s → IsRightAnswer (vars_in s) (clauses_of E) q a)
       → IfUnknown a (last_in one ≡ last_in s + x.asking.limit)
-      → ((E : List Event) (told : Told) (bytes : List ℕ) → HasHistory E told bytes s → (more : List ℕ) × (one.out.items ≡ s.out.items ++ more))
+      → ((L : Limits) (E : List Event) (told : Told) (bytes : List ℕ) → HasHistory L E told bytes s → (more : List ℕ) × (one.out.items ≡ s.out.items ++ more))
       → text ≡ answer_text x.asking.witness (cut x.events.greatest a) → HasWritten has old new one t
       → (IsTrue b → (proof : List ℕ) (moments : List Moment) → has new proof moments → has last proof (moments ++ moment text proof ∷ []))
       → (b ≡ false → (proof : List ℕ) (moments : List Moment) → has new proof moments
       → (front : List ℕ) × (rest : List ℕ) × (text ≡ front ++ rest) × has last proof (moments ++ moment front proof ∷ []))
-      → (b ≡ false → unheard last) → IsPaused all remaining (has last) (unheard last) b y t
+      → (b ≡ false → unheard last) → GoesOnOrIsUnheard all remaining (has last) (unheard last) b y t
   query_goes has unheard old new last A q a b text x y s one t r e events asking status less within stands_ right_ unknown grows printed written whole front refused =
-      let stands = subst (λ (Q : List Literal). (E : List Event) (told : Told) (bytes : List ℕ) → HasHistory E told bytes s → HasHistory (E ++ Asked Q ∷ []) (told ++ told_of a ∷ []) bytes one) e stands_ in
-      let right = subst (λ (Q : List Literal). (E : List Event) (told : Told) (bytes : List ℕ) → HasHistory E told bytes s → IsRightAnswer (vars_in s) (clauses_of E) Q a) e right_ in
+      let stands = subst (λ (Q : List Literal). (L : Limits) (E : List Event) (told : Told) (bytes : List ℕ) → HasHistory L E told bytes s → HasHistory L (E ++ Asked Q ∷ []) (told ++ told_of a ∷ []) bytes one) e stands_ in
+      let right = subst (λ (Q : List Literal). (L : Limits) (E : List Event) (told : Told) (bytes : List ℕ) → HasHistory L E told bytes s → IsRightAnswer (vars_in s) (clauses_of E) Q a) e right_ in
       let E = r.events in
       let told = told_all r.answers in
       let before = last_proof r.moments in
       let h = r.stands in
-      let k = stands E told before h in
-      let out = written (E ++ Asked A ∷ []) (told ++ told_of a ∷ []) before r.moments k r.out in
+      let L = x.asking.limits in
+      let k = stands L E told before h in
+      let out = written L (E ++ Asked A ∷ []) (told ++ told_of a ∷ []) before r.moments k r.out in
       let proof = before ++ one.out.items in
-      let more = grows E told before h in
+      let more = grows L E told before h in
       printed_so (has last) (unheard last) (has old) A a text proof b x y s t r events asking status out.stands
-      (is_answered (has old) A a (moment text proof) x s r less within (right E told before h) printed out.accepted
-      (limited a x.asking.limit E A told before more.0 s one h k more.1 unknown))
+      (is_answered (has old) A a (moment text proof) x s r less within (right L E told before h) printed out.accepted
+      (limited L a x.asking.limit E A told before more.0 s one h k more.1 unknown))
       (λ yes. whole yes proof r.moments out.out) (λ no. front no proof r.moments out.out) refused
 
   -- a clause was given to a session
   pub clause_goes : (has : List ℕ → List Moment → Type 0) (said : Sent) (C q : Clause) (x : Run B) (s t : Session P) → said ≡ sent.Clause → q ≡ C
-      → ((E : List Event) (told : Told) (bytes : List ℕ) → HasHistory E told bytes s → HasHistory (E ++ Given q ∷ []) told bytes t)
+      → ((L : Limits) (E : List Event) (told : Told) (bytes : List ℕ) → HasHistory L E told bytes s → HasHistory L (E ++ Given q ∷ []) told bytes t)
       → IsRunning all remaining has (event_of said C) x s → IsRunning all remaining has None x t
   clause_goes has said C q x s t says e stands_ r_ =
-      let stands = subst (λ (D : Clause). (E : List Event) (told : Told) (bytes : List ℕ) → HasHistory E told bytes s → HasHistory (E ++ Given D ∷ []) told bytes t) e stands_ in
+      let stands = subst (λ (D : Clause). (L : Limits) (E : List Event) (told : Told) (bytes : List ℕ) → HasHistory L E told bytes s → HasHistory L (E ++ Given D ∷ []) told bytes t) e stands_ in
       let r = subst (λ (m : Sent). IsRunning all remaining has (event_of m C) x s) says r_ in
-      running_clause all remaining has C x s t r (stands r.events (told_all r.answers) (last_proof r.moments) r.stands)
+      running_clause all remaining has C x s t r (stands x.asking.limits r.events (told_all r.answers) (last_proof r.moments) r.stands)
 
   -- a line had no event
   pub nothing_goes : (has : List ℕ → List Moment → Type 0) (said : Sent) (C : Clause) (x : Run B) (s : Session P) → said ≡ sent.Nothing

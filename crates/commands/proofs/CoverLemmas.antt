@@ -8,13 +8,14 @@ use Rattle.commands.specs.declared.formula_tree.Begun.{Begun}
 use Rattle.commands.specs.declared.formula_tree.Begun.TheVariants as begun
 use Rattle.commands.specs.Cover.{EndsCover, ReadsText, TakesText, covers, leaves_out, misses, most_bytes, takes, with_text, without_text}
 use Rattle.commands.specs.Names.{AreTaken, Gone}
-use Rattle.commands.specs.Known.{Of}
+use Rattle.commands.specs.Known.{HoldsOf}
 use Rattle.commands.specs.declared.small_file.SmallText.{SmallText}
 use Rattle.commands.specs.declared.small_file.SmallText.TheVariants.{Whole, TooLong, Unread}
 use Rattle.commands.specs.inner.Cover.{IsGone, IsText, IsTextOf}
 use Rattle.commands.specs.declared.cover_receipts.Run.{Run}
 use Rattle.commands.proofs.OfLemmas.{of_map}
 use Rattle.dimacs.specs.logic.Cnf.{Cnf}
+use Rattle.dimacs.specs.logic.Limits.{Limits}
 use Rattle.log_join.specs.ClosedLeaves.{Leaf, open_from}
 use Rattle.icnf.specs.Leaves.{Cube}
 use Rattle.leaves.specs.Leaf.{Prints}
@@ -89,19 +90,19 @@ few_leaves F cubes texts leaves are few =
 
 -- ---- what comes of a tree that was read, or of what is refused
 of_both : (P Q : List ℕ → List ℕ → Type 0) (a b : Option (List ℕ)) → ((text lines : List ℕ) → P text lines → Q text lines)
-    → Of a (λ text. Of b (λ lines. P text lines)) → Of a (λ text. Of b (λ lines. Q text lines))
-of_both P Q a b f h = of_map (λ text. Of b (P text)) (λ text. Of b (Q text)) a (λ text k. of_map (P text) (Q text) b (f text) k) h
+    → HoldsOf a (λ text. HoldsOf b (λ lines. P text lines)) → HoldsOf a (λ text. HoldsOf b (λ lines. Q text lines))
+of_both P Q a b f h = of_map (λ text. HoldsOf b (P text)) (λ text. HoldsOf b (Q text)) a (λ text k. of_map (P text) (Q text) b (f text) k) h
 
-pub of_quiet_tree : (quiet : Bool) (P : Cnf → List Cube → Type 0) (r : Report) (a b : Option (List ℕ)) (found : Begun) (s : Split) → found ≡ begun.With s → P s.formula s.tree
-    → Of a (λ text. Of b (λ lines. Begins text lines found)) → Of a (λ text. Of b (λ lines. OfQuietTree quiet text lines P r))
-of_quiet_tree quiet P r a b found s e p h = of_both (λ text lines. Begins text lines found) (λ text lines. OfQuietTree quiet text lines P r) a b (λ text lines k.
-    let Starts : Begun → Type 0 = Begins text lines in
+pub of_quiet_tree : (L : Limits) (quiet : Bool) (P : Cnf → List Cube → Type 0) (r : Report) (a b : Option (List ℕ)) (found : Begun) (s : Split) → found ≡ begun.With s → P s.formula s.tree
+    → HoldsOf a (λ text. HoldsOf b (λ lines. Begins L text lines found)) → HoldsOf a (λ text. HoldsOf b (λ lines. OfQuietTree L quiet text lines P r))
+of_quiet_tree L quiet P r a b found s e p h = of_both (λ text lines. Begins L text lines found) (λ text lines. OfQuietTree L quiet text lines P r) a b (λ text lines k.
+    let Starts : Begun → Type 0 = Begins L text lines in
     let j = subst Starts e k in
     let Told : Cnf → Type 0 = λ F. P F s.tree in
     inr (j.0, j.1, (s.tree, j.2.tree, subst Told j.2.formula p))) h
 
-pub of_quiet_refused : (quiet : Bool) (P : Cnf → List Cube → Type 0) (told r : Report) (a b : Option (List ℕ)) (found : Begun) → found ≡ begun.Refused told → IsHushed quiet told r
-    → Of a (λ text. Of b (λ lines. Begins text lines found)) → Of a (λ text. Of b (λ lines. OfQuietTree quiet text lines P r))
-of_quiet_refused quiet P told r a b found e hushed h = of_both (λ text lines. Begins text lines found) (λ text lines. OfQuietTree quiet text lines P r) a b (λ text lines k.
-    let Starts : Begun → Type 0 = Begins text lines in
+pub of_quiet_refused : (L : Limits) (quiet : Bool) (P : Cnf → List Cube → Type 0) (told r : Report) (a b : Option (List ℕ)) (found : Begun) → found ≡ begun.Refused told → IsHushed quiet told r
+    → HoldsOf a (λ text. HoldsOf b (λ lines. Begins L text lines found)) → HoldsOf a (λ text. HoldsOf b (λ lines. OfQuietTree L quiet text lines P r))
+of_quiet_refused L quiet P told r a b found e hushed h = of_both (λ text lines. Begins L text lines found) (λ text lines. OfQuietTree L quiet text lines P r) a b (λ text lines k.
+    let Starts : Begun → Type 0 = Begins L text lines in
     inl (told, hushed, subst Starts e k)) h

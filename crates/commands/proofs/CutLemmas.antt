@@ -41,22 +41,22 @@ right_cut all vars F A (answer.Failed failure) less clauses query h = h
 right_cut all vars F A answer.Unknown less clauses query h = h
 
 -- ---- variables up to the greatest one
-pub up_to : (n : ℕ) (ls : List Literal) → greatest_of ls ≤ n → All (IsWithin 1000000) ls → All (IsWithin n) ls
-up_to n [] less h = All-nil (IsWithin n)
-up_to n (l ∷ ls) less h =
-    let one = All-head (IsWithin 1000000) l ls h in
+pub up_to : (most n : ℕ) (ls : List Literal) → greatest_of ls ≤ n → All (IsWithin most) ls → All (IsWithin n) ls
+up_to most n [] less h = All-nil (IsWithin n)
+up_to most n (l ∷ ls) less h =
+    let one = All-head (IsWithin most) l ls h in
     All-cons (IsWithin n) l ls (one.0, omega (arith, less, le-max_left (var_of l) (greatest_of ls)))
-    (up_to n ls (omega (arith, less, le-max_right (var_of l) (greatest_of ls))) (All-tail (IsWithin 1000000) l ls h))
+    (up_to most n ls (omega (arith, less, le-max_right (var_of l) (greatest_of ls))) (All-tail (IsWithin most) l ls h))
 
-abbrev pub AreSmall : List Event → Type 0
-AreSmall E = All (λ e. All (IsWithin 1000000) (literals_of e)) E
+abbrev pub AreSmall : ℕ → List Event → Type 0
+AreSmall most E = All (λ e. All (IsWithin most) (literals_of e)) E
 
-pub clauses_up_to : (n : ℕ) (E : List Event) → greatest E ≤ n → AreSmall E → AreWithin n (clauses_of E)
-clauses_up_to n [] less h = All-nil (All (IsWithin n))
-clauses_up_to n (Given C ∷ E) less h =
-    let P : Event → Type 0 = λ e. All (IsWithin 1000000) (literals_of e) in
-    All-cons (All (IsWithin n)) C (clauses_of E) (up_to n C (omega (arith, less, le-max_left (greatest_of C) (greatest E))) (All-head P (Given C) E h))
-    (clauses_up_to n E (omega (arith, less, le-max_right (greatest_of C) (greatest E))) (All-tail P (Given C) E h))
-clauses_up_to n (Asked A ∷ E) less h =
-    let P : Event → Type 0 = λ e. All (IsWithin 1000000) (literals_of e) in
-    clauses_up_to n E (omega (arith, less, le-max_right (greatest_of A) (greatest E))) (All-tail P (Asked A) E h)
+pub clauses_up_to : (most n : ℕ) (E : List Event) → greatest E ≤ n → AreSmall most E → AreWithin n (clauses_of E)
+clauses_up_to most n [] less h = All-nil (All (IsWithin n))
+clauses_up_to most n (Given C ∷ E) less h =
+    let P : Event → Type 0 = λ e. All (IsWithin most) (literals_of e) in
+    All-cons (All (IsWithin n)) C (clauses_of E) (up_to most n C (omega (arith, less, le-max_left (greatest_of C) (greatest E))) (All-head P (Given C) E h))
+    (clauses_up_to most n E (omega (arith, less, le-max_right (greatest_of C) (greatest E))) (All-tail P (Given C) E h))
+clauses_up_to most n (Asked A ∷ E) less h =
+    let P : Event → Type 0 = λ e. All (IsWithin most) (literals_of e) in
+    clauses_up_to most n E (omega (arith, less, le-max_right (greatest_of A) (greatest E))) (All-tail P (Asked A) E h)

@@ -4,7 +4,7 @@ use Rattle.std.proofs.Common.{sym, ◌∙◌, ap, subst, inl, inr, arith}
 use Rattle.answers.specs.Parse.{answer_of}
 use Rattle.answers.specs.Reports.{first_missed}
 use Rattle.answers.specs.declared.fault.AnswerFault.{AnswerFault}
-use Rattle.commands.specs.Known.{Of}
+use Rattle.commands.specs.Known.{HoldsOf}
 use Rattle.commands.specs.FormulaTree.{Begins, IsHushed, OfFormula, OfQuietTree, RefusesCubes, RefusesInput}
 use Rattle.commands.specs.Names.{Gone, OfListed, OfNames, lists, names_of, none_gone, one_more}
 use Rattle.commands.specs.Join.{AnswersBy, IsStored, Joins, Misses, OneStops, ReadsFile, Refutes, Stops, StopsAt, Takes, TakesFile, end_line, with_file, without_file}
@@ -21,6 +21,7 @@ use Rattle.commands.specs.declared.feed_loop.Fed.TheVariants.{Whole, Unread as U
 use Rattle.commands.specs.inner.Join.{Ends, Goes, HasJoined, HasJoinedOn, HasPart, IsAt, IsKept, IsSettled, Stands, Tells, TakesSome}
 use Rattle.commands.specs.inner.Parts.{IsPart}
 use Rattle.dimacs.specs.logic.Cnf.{Cnf, Sat, assignment_of}
+use Rattle.dimacs.specs.logic.Limits.{Limits}
 use Rattle.dimacs.specs.logic.Propagation.{Assumed}
 use Rattle.text_or_binary.specs.FormJoin.{HasReadFormFiles}
 use Rattle.text_or_binary.specs.declared.form_join.FormJoin.{FormJoin}
@@ -35,7 +36,8 @@ use Rattle.leaves.specs.declared.file_outcome.FileOutcome.TheVariants.{Satisfies
 use Rattle.dimacs.specs.text.Answer.{satisfied_lines}
 use Rattle.leaves.specs.Leaf.{Prints}
 use Rattle.lrat_check.specs.Logs.{log_of}
-use Rattle.lrat_forms.specs.Forms.{is_binary, text_form}
+use Rattle.lrat_forms.specs.Forms.{is_binary, text_form_within}
+use Rattle.lrat_text.specs.Log.{log_top}
 use Rattle.reports.specs.declared.refusal.Refusal.{Refusal}
 use Rattle.reports.specs.declared.report.Report.{Report}
 use Rattle.commands.proofs.OfLemmas.{of_map, of_ok, of_opened}
@@ -125,10 +127,10 @@ file_goes made F cubes s bytes name a b p q old new e None ends tells kept at =
     )
 file_goes made F cubes s bytes name a b p q old new e (Some r) ends tells kept at =
     let file = ends old.options.proof F cubes s.files bytes at.stands in
-    let P : FileOutcome → Type 0 = λ x. IsFileOutcome F cubes (map text_form s.files) (text_form bytes) x in
+    let P : FileOutcome → Type 0 = λ x. IsFileOutcome F cubes (map (text_form_within (log_top F)) s.files) (text_form_within (log_top F) bytes) x in
     let told = subst P tells.1 file.tells in
     let Text : List ℕ → Type 0 = λ notes. Prints 10 (notes ++ satisfied_lines tells.0 old.options.witness) r in
-    record { values = tells.0; tells = told; satisfies = satisfies_of F cubes (map text_form s.files) (text_form bytes) tells.0 told; prints = subst Text at.noted tells.2 }
+    record { values = tells.0; tells = told; satisfies = satisfies_of F cubes (map (text_form_within (log_top F)) s.files) (text_form_within (log_top F) bytes) tells.0 told; prints = subst Text at.noted tells.2 }
 
 -- one that cannot be read is left
 pub skip_goes : {E : Type 0} (made : E → List ℕ → List ℕ → Type 0) (F : Cnf) (cubes : List Cube) (s : Gone) (bytes name : List ℕ)
@@ -148,8 +150,8 @@ skip_goes made F cubes s bytes name a b p q old new left line kept at = (
 
 -- ---- a name
 pub some_goes : (At : Gone → Type 0) (F : Cnf) (cubes : List Cube) (quiet witness : Bool) (known : Option (List ℕ)) (name : List ℕ) (s : Gone) (found : Option Report)
-    → Of known (λ bytes. Goes At (ReadsFile F cubes quiet name bytes s) (AnswersBy F cubes witness bytes s) found)
-    → Goes At (TakesSome F cubes quiet known name s) (λ r. Of known (λ bytes. AnswersBy F cubes witness bytes s r)) found
+    → HoldsOf known (λ bytes. Goes At (ReadsFile F cubes quiet name bytes s) (AnswersBy F cubes witness bytes s) found)
+    → Goes At (TakesSome F cubes quiet known name s) (λ r. HoldsOf known (λ bytes. AnswersBy F cubes witness bytes s r)) found
 some_goes At F cubes quiet witness None name s None h = (h.1.0, inl (h.0, h.1.1), h.1.2)
 some_goes At F cubes quiet witness (Some bytes) name s None h = (h.0, inl h.1, h.2)
 some_goes At F cubes quiet witness known name s (Some r) h = h
@@ -171,7 +173,7 @@ file_taken F cubes quiet free left holds name s t f e (inr h) = inr h
 
 pub take_goes : (At : Gone → Type 0) (F : Cnf) (cubes : List Cube) (quiet witness : Bool) (free : Type 0) (left holds : Option (List ℕ)) (name : List ℕ) (s : Gone) (found : Option Report)
     → free → IfSome holds (λ bytes. left ≡ Some bytes)
-    → Goes At (TakesSome F cubes quiet left name s) (λ r. Of left (λ bytes. AnswersBy F cubes witness bytes s r)) found
+    → Goes At (TakesSome F cubes quiet left name s) (λ r. HoldsOf left (λ bytes. AnswersBy F cubes witness bytes s r)) found
     → Goes At (TakesFile F cubes quiet free holds name s) (StopsAt F cubes witness free holds s) found
 take_goes At F cubes quiet witness free left holds name s None f e h = (h.0, file_taken F cubes quiet free left holds name s h.0 f e h.1, h.2)
 take_goes At F cubes quiet witness free left holds name s (Some r) f e h = (f, of_opened (λ bytes. AnswersBy F cubes witness bytes s r) left holds e h)
@@ -203,7 +205,7 @@ of_names holds names P Q f h = at (lists names) h
 
 -- ---- the end
 pub concludes_so : {E : Type 0} (made : E → List ℕ → List ℕ → Type 0) (target : Option Target) (F : Cnf) (cubes : List Cube) (s : Gone) (written notes : List ℕ) (j : Join) (part : Option (Part E)) (r : Report)
-    → notes ≡ s.notes → Concludes F cubes (map text_form s.files) [] written notes j r → HasPart made target (written ++ j.lines.out.items) part
+    → notes ≡ s.notes → Concludes F cubes (map (text_form_within (log_top F)) s.files) [] written notes j r → HasPart made target (written ++ j.lines.out.items) part
     → Refutes (λ proof. HasPart made target proof part) F cubes s r ⊎ Misses (Unit {0}) F cubes s r
 concludes_so made target F cubes s written notes j part r is (proves e closed told) has = inl (record {
   closed = closed;
@@ -214,7 +216,7 @@ concludes_so made target F cubes s written notes j part r is (proves e closed to
   text = told.text ∙ ap (λ n. n ++ codes "s UNSATISFIABLE\n") is;
 })
 concludes_so made target F cubes s written notes j part r is (misses wrong told) has =
-    let P : List ℕ → Type 0 = λ n. ReportsOpen F cubes (map text_form s.files) n r in
+    let P : List ℕ → Type 0 = λ n. ReportsOpen F cubes (map (text_form_within (log_top F)) s.files) n r in
     inr (record { open_leaf = λ closed. wrong (refl, closed); left_so = tt; reports = subst P is told })
 
 pub joins_found : (Takes : List ℕ → Gone → Gone → Type 0) (Stops : List ℕ → Gone → Report → Type 0) (keeps : List ℕ → Type 0) (F : Cnf) (cubes : List Cube) (names : List (List ℕ)) (r : Report)
@@ -226,7 +228,7 @@ answers_10 : {D : Type 0} (holds : D → List ℕ → Option (List ℕ)) (apart 
     → Stops holds apart disk o F cubes name a r → r.status ≡ 10
 answers_10 holds apart disk o F cubes name a r h = at (holds disk name) h.1
   where
-    at : (known : Option (List ℕ)) → Of known (λ bytes. AnswersBy F cubes o.witness bytes a r) → r.status ≡ 10
+    at : (known : Option (List ℕ)) → HoldsOf known (λ bytes. AnswersBy F cubes o.witness bytes a r) → r.status ≡ 10
     at None k = k.1.prints.status_is
     at (Some bytes) k = k.prints.status_is
 
@@ -263,41 +265,41 @@ settled_joins made kept old new part found holds apart o F cubes names r settled
 settled_joins made kept old new part found holds apart o F cubes names r settled (inr h) = inr (settled.2 (ten_not_20 r.status (stopped_10 holds apart old o F cubes names none_gone r h.1)), h.1)
 
 -- ---- an input, and cubes
-pub of_quiet_tree : (quiet : Bool) (P : Cnf → List Cube → Type 0) (r : Report) (a b : Option (List ℕ)) (begun : Begun) (s : Split) → begun ≡ With s → P s.formula s.tree
-    → Of a (λ text. Of b (λ lines. Begins text lines begun)) → Of a (λ text. Of b (λ lines. OfQuietTree quiet text lines P r))
-of_quiet_tree quiet P r a b begun s e p h = of_both (λ text lines. Begins text lines begun) (λ text lines. OfQuietTree quiet text lines P r) a b (λ text lines k.
-    let Starts : Begun → Type 0 = Begins text lines in
+pub of_quiet_tree : (L : Limits) (quiet : Bool) (P : Cnf → List Cube → Type 0) (r : Report) (a b : Option (List ℕ)) (begun : Begun) (s : Split) → begun ≡ With s → P s.formula s.tree
+    → HoldsOf a (λ text. HoldsOf b (λ lines. Begins L text lines begun)) → HoldsOf a (λ text. HoldsOf b (λ lines. OfQuietTree L quiet text lines P r))
+of_quiet_tree L quiet P r a b begun s e p h = of_both (λ text lines. Begins L text lines begun) (λ text lines. OfQuietTree L quiet text lines P r) a b (λ text lines k.
+    let Starts : Begun → Type 0 = Begins L text lines in
     let j = subst Starts e k in
     let Told : Cnf → Type 0 = λ F. P F s.tree in
     inr (j.0, j.1, (s.tree, j.2.tree, subst Told j.2.formula p))) h
 
-pub of_hushed : (quiet : Bool) (P : Cnf → List Cube → Type 0) (told r : Report) (a b : Option (List ℕ)) (begun : Begun) → begun ≡ RefusedBegun told → IsHushed quiet told r
-    → Of a (λ text. Of b (λ lines. Begins text lines begun)) → Of a (λ text. Of b (λ lines. OfQuietTree quiet text lines P r))
-of_hushed quiet P told r a b begun e hush h = of_both (λ text lines. Begins text lines begun) (λ text lines. OfQuietTree quiet text lines P r) a b (λ text lines k.
-    let Starts : Begun → Type 0 = Begins text lines in
+pub of_hushed : (L : Limits) (quiet : Bool) (P : Cnf → List Cube → Type 0) (told r : Report) (a b : Option (List ℕ)) (begun : Begun) → begun ≡ RefusedBegun told → IsHushed quiet told r
+    → HoldsOf a (λ text. HoldsOf b (λ lines. Begins L text lines begun)) → HoldsOf a (λ text. HoldsOf b (λ lines. OfQuietTree L quiet text lines P r))
+of_hushed L quiet P told r a b begun e hush h = of_both (λ text lines. Begins L text lines begun) (λ text lines. OfQuietTree L quiet text lines P r) a b (λ text lines k.
+    let Starts : Begun → Type 0 = Begins L text lines in
     inl (told, hush, subst Starts e k)) h
 
-refused_1 : (text lines : List ℕ) (r : Report) → RefusesInput text r ⊎ OfFormula text (λ F. RefusesCubes F lines r) → r.status ≡ 1
-refused_1 text lines r (inl h) = h.2.status_is
-refused_1 text lines r (inr h) = h.2.2.status_is
+refused_1 : (L : Limits) (text lines : List ℕ) (r : Report) → RefusesInput L text r ⊎ OfFormula L text (λ F. RefusesCubes L F lines r) → r.status ≡ 1
+refused_1 L text lines r (inl h) = h.2.status_is
+refused_1 L text lines r (inr h) = h.2.2.status_is
 
-pub refused_not_20 : (told r : Report) (quiet : Bool) (a b : Option (List ℕ)) (begun : Begun) → begun ≡ RefusedBegun told → IsHushed quiet told r
-    → Of a (λ text. Of b (λ lines. Begins text lines begun)) → r.status ≢ 20
-refused_not_20 told r quiet a b begun e hush h = at a b (of_both (λ text lines. Begins text lines begun) (λ text lines. told.status ≡ 1) a b (λ text lines k.
-    let Starts : Begun → Type 0 = Begins text lines in
-    refused_1 text lines told (subst Starts e k)) h)
+pub refused_not_20 : (L : Limits) (told r : Report) (quiet : Bool) (a b : Option (List ℕ)) (begun : Begun) → begun ≡ RefusedBegun told → IsHushed quiet told r
+    → HoldsOf a (λ text. HoldsOf b (λ lines. Begins L text lines begun)) → r.status ≢ 20
+refused_not_20 L told r quiet a b begun e hush h = at a b (of_both (λ text lines. Begins L text lines begun) (λ text lines. told.status ≡ 1) a b (λ text lines k.
+    let Starts : Begun → Type 0 = Begins L text lines in
+    refused_1 L text lines told (subst Starts e k)) h)
   where
     not_20 : told.status ≡ 1 → r.status ≢ 20
     not_20 h e = let is = hush.status in omega arith
 
-    at : (a b : Option (List ℕ)) → Of a (λ text. Of b (λ lines. told.status ≡ 1)) → r.status ≢ 20
+    at : (a b : Option (List ℕ)) → HoldsOf a (λ text. HoldsOf b (λ lines. told.status ≡ 1)) → r.status ≢ 20
     at None None h = not_20 h.1.1
     at None (Some lines) h = not_20 h.1
     at (Some text) None h = not_20 h.1
     at (Some text) (Some lines) h = not_20 h
 
 -- ---- what was fed
-pub fed_whole : {T : Type 0} (old new : T) (took : T → T → List ℕ → Type 0) (known : Option (List ℕ)) (f : Fed) → f ≡ Whole → IsFedSo took known old new f → Of known (took old new)
+pub fed_whole : {T : Type 0} (old new : T) (took : T → T → List ℕ → Type 0) (known : Option (List ℕ)) (f : Fed) → f ≡ Whole → IsFedSo took known old new f → HoldsOf known (took old new)
 fed_whole old new took known f e h =
     let P : Fed → Type 0 = IsFedSo took known old new in
     subst P e h
@@ -312,6 +314,6 @@ pub fed_at : {A E : Type 0} (made : E → List ℕ → List ℕ → Type 0) (F :
     → HasJoinedOn made d e a b p q bytes → IsAt made F cubes s [] n a p sheet → IsAt made F cubes s bytes n b q sheet
 fed_at made F cubes s n bytes d e a b p q sheet h at = record { stands = h.1 sheet.options.proof F cubes s.files [] at.stands; noted = at.noted; counted = at.counted }
 
-pub of_some : (P : List ℕ → Type 0) (known : Option (List ℕ)) → Of known P → (bytes : List ℕ) × P bytes
+pub of_some : (P : List ℕ → Type 0) (known : Option (List ℕ)) → HoldsOf known P → (bytes : List ℕ) × P bytes
 of_some P None h = h
 of_some P (Some bytes) h = (bytes, h)

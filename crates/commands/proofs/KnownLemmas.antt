@@ -2,9 +2,9 @@
 use Rattle.std.specs.Prelude.{◌≡◌, ℕ, List, [], Option, Some, None, Result, Ok, Err, IfOk, MatchResult, OnOk}
 use Rattle.std.specs.Result.{IsErrAnd, IsOk}
 use Rattle.std.proofs.Common.{sym, subst, ◌∙◌}
-use Rattle.commands.specs.Known.{Of}
+use Rattle.commands.specs.Known.{HoldsOf}
 
-pub of_any : (P : List ℕ → Type 0) (k : Option (List ℕ)) → ((bytes : List ℕ) → P bytes) → Of k P
+pub of_any : (P : List ℕ → Type 0) (k : Option (List ℕ)) → ((bytes : List ℕ) → P bytes) → HoldsOf k P
 of_any P None f = ([], f [])
 of_any P (Some bytes) f = f bytes
 

@@ -2,7 +2,7 @@
 use Rattle.std.specs.Prelude.{IfOk, ◌≡◌, ◌≢◌, ◌⊎◌, ◌++◌, ℕ, Bool, true, false, List, [], Option, Some, None, Result, Ok, Err, refl, if◌then◌else◌}
 use Rattle.std.specs.Global.{Vec}
 use Rattle.std.proofs.Common.{sym, ◌∙◌, subst, inl, inr, arith}
-use Rattle.commands.specs.Known.{Of}
+use Rattle.commands.specs.Known.{HoldsOf}
 use Rattle.commands.specs.Lift.{LiftsAt, LiftsBlock, LiftsEach, LiftsLeaf, fault_lines, lifts, lifts_all, refuses, refuses_all}
 use Rattle.commands.specs.Written.{Keeps}
 use Rattle.commands.specs.declared.lift.LeafLift.{LeafLift}
@@ -18,7 +18,8 @@ use Rattle.leaves.specs.LeafLift.{lifted_text}
 use Rattle.leaves.specs.declared.block_lift.BlockLift.{BlockLift}
 use Rattle.lrat_check.specs.ProofFaults.{no_memory}
 use Rattle.lrat_check.specs.declared.line_checker.CheckFault.{CheckFault}
-use Rattle.lrat_forms.specs.Forms.{is_binary, text_form}
+use Rattle.lrat_forms.specs.Forms.{is_binary, text_form_within}
+use Rattle.lrat_text.specs.Log.{log_top}
 use Rattle.lrat_forms.specs.Pieces.{is_cut}
 use Rattle.proof_lift.specs.Leaves.{IsRefutation}
 use Rattle.proof_lift.specs.Stream.{IsFaultOf}
@@ -37,19 +38,19 @@ other_is fault (inl e) other = absurd (other e)
 other_is fault (inr h) other = h
 
 pub refused_of : (l : FormLift) (fault : CheckFault) (b : Bool) (r : Report)
-    → ((F : Cnf) (q : Cube) (bytes written : List ℕ) → HasTakenFormProof F q bytes written l → IsRefutation (leaf_of q F) (text_form bytes) → fault ≡ no_memory)
-    → ((F : Cnf) (q : Cube) (bytes written : List ℕ) → HasTakenFormProof F q bytes written l → (fault ≡ no_memory) ⊎ IsFaultOf F q (text_form bytes) fault)
+    → ((F : Cnf) (q : Cube) (bytes handed : List ℕ) → HasTakenFormProof F q bytes handed l → IsRefutation (leaf_of q F) (text_form_within (log_top F) bytes) → fault ≡ no_memory)
+    → ((F : Cnf) (q : Cube) (bytes handed : List ℕ) → HasTakenFormProof F q bytes handed l → (fault ≡ no_memory) ⊎ IsFaultOf F q (text_form_within (log_top F) bytes) fault)
     → is_cut l.form.stage ≡ false
-    → ((F : Cnf) (q : Cube) (bytes written : List ℕ) → HasTakenFormProof F q bytes written l → is_cut l.form.stage ≡ false → b ≡ is_binary bytes)
+    → ((F : Cnf) (q : Cube) (bytes handed : List ℕ) → HasTakenFormProof F q bytes handed l → is_cut l.form.stage ≡ false → b ≡ is_binary bytes)
     → fault ≢ no_memory → Prints 1 (fault_lines b fault) r
-    → (F : Cnf) (q : Cube) (bytes written : List ℕ) → HasTakenFormProof F q bytes written l → IsRefused F q bytes r
-refused_of l fault b r complete exact uncut form other prints F q bytes written h =
+    → (F : Cnf) (q : Cube) (bytes handed : List ℕ) → HasTakenFormProof F q bytes handed l → IsRefused F q bytes r
+refused_of l fault b r complete exact uncut form other prints F q bytes handed h =
     let P : Bool → Type 0 = λ x. Prints 1 (fault_lines x fault) r in
     record {
       fault = fault;
-      first = other_is fault (exact F q bytes written h) other;
-      wrong = λ refutes. other (complete F q bytes written h refutes);
-      prints = subst P (form F q bytes written h uncut) prints;
+      first = other_is fault (exact F q bytes handed h) other;
+      wrong = λ refutes. other (complete F q bytes handed h refutes);
+      prints = subst P (form F q bytes handed h uncut) prints;
     }
 
 pub leaf_lifts : {D : Type 0} (kept : D → D → List ℕ → List ℕ → Type 0) (old new : D) (binary : Bool) (path : List ℕ)
@@ -100,17 +101,17 @@ at_left stays left F None leaf proof r h e = h.0
 at_left stays left F (Some q) leaf proof r h e = leaf_left stays left F q leaf proof r h e
 
 pub of_leaf_left : (stays : List ℕ → Type 0) (left : Type 0) (F : Cnf) (cubes : List Cube) (leaf : ℕ) (known : Option (List ℕ)) (r : Report)
-    → Of known (λ proof. LiftsAt stays left F (leaf_at cubes leaf) leaf proof r) → r.status ≡ 1 → left
+    → HoldsOf known (λ proof. LiftsAt stays left F (leaf_at cubes leaf) leaf proof r) → r.status ≡ 1 → left
 of_leaf_left stays left F cubes leaf None r h e = at_left stays left F (leaf_at cubes leaf) leaf h.0 r h.1 e
 of_leaf_left stays left F cubes leaf (Some proof) r h e = at_left stays left F (leaf_at cubes leaf) leaf proof r h e
 
 pub of_each_left : (stays : List ℕ → Type 0) (left : Type 0) (F : Cnf) (place : ℕ) (cubes : List Cube) (known : Option (List ℕ)) (r : Report)
-    → Of known (λ text. LiftsEach stays left F place cubes text r) → r.status ≡ 1 → left
+    → HoldsOf known (λ text. LiftsEach stays left F place cubes text r) → r.status ≡ 1 → left
 of_each_left stays left F place cubes None r h e = each_left stays left F place cubes h.0 r h.1 e
 of_each_left stays left F place cubes (Some text) r h e = each_left stays left F place cubes text r h e
 
 pub of_block_left : (stays : List ℕ → Type 0) (left : Type 0) (F : Cnf) (place : ℕ) (cubes : Option (List Cube)) (known : Option (List ℕ)) (r : Report)
-    → Of known (λ text. LiftsBlock stays left F place cubes text r) → r.status ≡ 1 → left
+    → HoldsOf known (λ text. LiftsBlock stays left F place cubes text r) → r.status ≡ 1 → left
 of_block_left stays left F place cubes None r h e = block_left stays left F place cubes h.0 r h.1 e
 of_block_left stays left F place cubes (Some text) r h e = block_left stays left F place cubes text r h e
 
@@ -130,7 +131,7 @@ none_lifts stays left F (Some q) leaf proof r start h prints = absurd start
 pub text_lifts : {D : Type 0} (holds : D → List ℕ → Option (List ℕ)) (old : D) (stays : List ℕ → Type 0) (left : Type 0) (name : List ℕ)
     (F : Cnf) (place : ℕ) (cubes : Option (List Cube)) (l : BlockLift) (result : Result Report Refusal)
     → BeginsBlockOf F place cubes (Some l)
-    → ((G : Cnf) (p : ℕ) (qs : List Cube) → HasTakenBlock G p qs [] [] l → IfOk result (λ r. Of (holds old name) (λ text. LiftsEach stays left G p qs text r)))
-    → IfOk result (λ r. Of (holds old name) (λ text. LiftsBlock stays left F place cubes text r))
+    → ((G : Cnf) (p : ℕ) (qs : List Cube) → HasTakenBlock G p qs [] [] l → IfOk result (λ r. HoldsOf (holds old name) (λ text. LiftsEach stays left G p qs text r)))
+    → IfOk result (λ r. HoldsOf (holds old name) (λ text. LiftsBlock stays left F place cubes text r))
 text_lifts holds old stays left name F place None l result begins goes = absurd (cc)
 text_lifts holds old stays left name F place (Some cubes) l result begins goes = goes F place cubes begins

@@ -5,11 +5,12 @@ use Rattle.answers.specs.Grammar.{Verifies}
 use Rattle.answers.specs.Reports.{IsModelReport}
 use Rattle.answers.specs.declared.report.ModelReport.{ModelReport}
 use Rattle.commands.specs.FormulaTree.{RefusesInput}
-use Rattle.commands.specs.Known.{Of}
+use Rattle.commands.specs.Known.{HoldsOf}
 use Rattle.commands.specs.Model.{Tests, TestsAnswer}
 use Rattle.commands.proofs.OfLemmas.{of_map}
 use Rattle.dimacs.specs.logic.Cnf.{Cnf}
-use Rattle.dimacs.specs.text.Parser.{no_memory, parse}
+use Rattle.dimacs.specs.logic.Limits.{Limits}
+use Rattle.dimacs.specs.text.Parser.{no_memory, parse_within}
 use Rattle.dimacs.specs.text.Rows.{Fails}
 use Rattle.dimacs.specs.declared.fault.DimacsFault.{DimacsFault}
 use Rattle.leaves.specs.Leaf.{Prints}
@@ -33,13 +34,13 @@ tests_of F G answer m r e h text status proof =
     let Told : Cnf → Type 0 = λ H. IsModelReport H answer m in
     tests_so F answer m r (subst Told e h) text status proof
 
-fails_is : (fault : DimacsFault) (text : List ℕ) → Fails no_memory fault (parse text) → fault ≢ no_memory → parse text ≡ Err fault
-fails_is fault text (inl e) other = absurd (other e)
-fails_is fault text (inr e) other = e
+fails_is : (L : Limits) (fault : DimacsFault) (text : List ℕ) → Fails no_memory fault (parse_within L text) → fault ≢ no_memory → parse_within L text ≡ Err fault
+fails_is L fault text (inl e) other = absurd (other e)
+fails_is L fault text (inr e) other = e
 
-pub input_refused : (known answer : Option (List ℕ)) (fault : DimacsFault) (result : Result Report Refusal) → Of known (λ text. Fails no_memory fault (parse text))
-    → IfOk result (Prints 1 (input_fault_text fault)) → OnOk result (fault ≢ no_memory) → IfOk result (λ r. Of known (λ text. TestsAnswer text answer r))
-input_refused known answer fault (Ok r) h prints other =
-    of_map (λ text. Fails no_memory fault (parse text)) (λ text. TestsAnswer text answer r) known
-    (λ text fails. inl (fault, fails_is fault text fails other, prints)) h
-input_refused known answer fault (Err e) h prints other = tt
+pub input_refused : (L : Limits) (known answer : Option (List ℕ)) (fault : DimacsFault) (result : Result Report Refusal) → HoldsOf known (λ text. Fails no_memory fault (parse_within L text))
+    → IfOk result (Prints 1 (input_fault_text fault)) → OnOk result (fault ≢ no_memory) → IfOk result (λ r. HoldsOf known (λ text. TestsAnswer L text answer r))
+input_refused L known answer fault (Ok r) h prints other =
+    of_map (λ text. Fails no_memory fault (parse_within L text)) (λ text. TestsAnswer L text answer r) known
+    (λ text fails. inl (fault, fails_is L fault text fails other, prints)) h
+input_refused L known answer fault (Err e) h prints other = tt

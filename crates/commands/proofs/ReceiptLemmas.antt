@@ -1,6 +1,6 @@
 -- What a log comes to.
 use Rattle.std.proofs.Common.{◌≡◌, ◌≢◌, ◌++◌, inl, inr, ℕ, Bool, true, List, Option, Some, None, Result, Ok, Err, IsTrue, refl, sym, ap, subst, append_assoc, arith, is_some}
-use Rattle.commands.specs.Known.{Of}
+use Rattle.commands.specs.Known.{HoldsOf}
 use Rattle.commands.specs.Receipts.{TellsReceipt, faults, nothing, receipts}
 use Rattle.commands.specs.declared.receipt.Received.{Received}
 use Rattle.commands.specs.declared.receipt.Received.TheVariants.{Told, Refused}
@@ -48,6 +48,6 @@ tells_left keeps left F cubes log r (nothing none stays prints) e = stays
 tells_left keeps left F cubes log r (faults fault first stays prints) e = stays
 
 pub of_left : (keeps : List ℕ → Type 0) (left : Type 0) (F : Cnf) (cubes : List Cube) (known : Option (List ℕ)) (r : Report)
-    → Of known (λ log. TellsReceipt keeps left F cubes log r) → r.status ≡ 1 → left
+    → HoldsOf known (λ log. TellsReceipt keeps left F cubes log r) → r.status ≡ 1 → left
 of_left keeps left F cubes None r h e = tells_left keeps left F cubes h.0 r h.1 e
 of_left keeps left F cubes (Some log) r h e = tells_left keeps left F cubes log r h e

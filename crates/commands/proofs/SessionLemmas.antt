@@ -4,12 +4,12 @@ use Rattle.cube_solve.specs.declared.answer.Answer.{Answer}
 use Rattle.dimacs.specs.logic.Literal.{Literal, Clause}
 use Rattle.incremental.specs.SessionHistory.{Told, told_of}
 use Rattle.sessions.specs.Answers.{Event, Given, Asked}
-use Rattle.commands.specs.SessionLines.{status_behind, status_of}
+use Rattle.commands.specs.SessionLines.{status_after, status_of}
 use Rattle.commands.specs.SessionMoments.{AreAnswered, IsAnswered, Moment, proof_behind, told_all}
 use Rattle.commands.specs.declared.session_loop.Asking.{Asking}
 
 -- ---- the last of all
-pub last_status_is : (status : ℕ) (answers : List Answer) (a : Answer) → status_behind status (answers ++ a ∷ []) ≡ status_of a
+pub last_status_is : (status : ℕ) (answers : List Answer) (a : Answer) → status_after status (answers ++ a ∷ []) ≡ status_of a
 last_status_is status [] a = refl
 last_status_is status (b ∷ answers) a = last_status_is (status_of b) answers a
 

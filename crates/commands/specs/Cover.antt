@@ -1,8 +1,8 @@
 -- What `cover` tells of the files of an input, cubes and receipts.
 use Rattle.std.specs.Prelude.{◌≡◌, ◌⊎◌, ◌≤◌, ◌<◌, ◌^◌, ◌++◌, ℕ, Bool, List, [], ◌∷◌, length, Option, codes, if◌then◌else◌}
-use Rattle.commands.specs.Known.{Of}
+use Rattle.commands.specs.Known.{HoldsOf}
 use Rattle.commands.specs.Names.{AreTaken, Gone, none_gone, one_more}
-use Rattle.commands.specs.Refusals.{IsUnread}
+use Rattle.commands.specs.Refusals.{IsOneOf}
 use Rattle.dimacs.specs.logic.Cnf.{Cnf}
 use Rattle.log_join.specs.ClosedLeaves.{Leaf, open_from}
 use Rattle.icnf.specs.Leaves.{Cube}
@@ -53,7 +53,7 @@ pub data ReadsText (F : Cnf) (cubes : List Cube) (quiet : Bool) (name bytes : Li
 
 -- a name leads a run from `old` to `new`: its file is read to its end, or cannot be read
 abbrev pub TakesText : Cnf → List Cube → Bool → Option (List ℕ) → List ℕ → Gone → Gone → Type 0
-TakesText F cubes quiet known name old new = Of known (λ bytes. ReadsText F cubes quiet name bytes old new) ⊎ (new ≡ without_text noted.Unread name old)
+TakesText F cubes quiet known name old new = HoldsOf known (λ bytes. ReadsText F cubes quiet name bytes old new) ⊎ (new ≡ without_text noted.Unread name old)
 
 -- ---- what comes of them
 -- the report after the run `s`: `s COVERED`, status 0, if and only if the texts that were taken cover the leaves; else each leaf that none
@@ -71,4 +71,4 @@ pub record TellsCover (holds : List ℕ → Option (List ℕ)) (F : Cnf) (cubes 
 
 -- a refusal of `cover`: want of memory, or the input, the cubes or the list of names cannot be read
 abbrev pub IsUncovered : Refusal → Type 0
-IsUncovered f = IsUnread Input Cubes f ⊎ (f ≡ Proof)
+IsUncovered f = IsOneOf Input Cubes f ⊎ (f ≡ Proof)

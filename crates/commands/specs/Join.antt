@@ -1,6 +1,6 @@
 -- What `join` tells of the files of an input, cubes and logs, and what it writes.
 use Rattle.std.specs.Prelude.{◌≡◌, ◌⊎◌, ◌++◌, ◌∷◌, ℕ, Bool, true, false, List, [], Option, Some, None, map, codes, if◌then◌else◌}
-use Rattle.commands.specs.Known.{Of}
+use Rattle.commands.specs.Known.{HoldsOf}
 use Rattle.commands.specs.Names.{AreTaken, Gone, none_gone, one_more}
 use Rattle.commands.specs.Written.{Keeps}
 use Rattle.commands.specs.declared.drafts.Target.{Target}
@@ -16,7 +16,8 @@ use Rattle.leaves.specs.declared.file_outcome.FileOutcome.{FileOutcome}
 use Rattle.leaves.specs.declared.file_outcome.FileOutcome.TheVariants.{Closes, ClosesNothing, Refused, Satisfies}
 use Rattle.leaves.specs.declared.notes.Note.{Note}
 use Rattle.leaves.specs.declared.notes.Note.TheVariants as noted
-use Rattle.lrat_forms.specs.Forms.{is_binary, text_form}
+use Rattle.lrat_forms.specs.Forms.{is_binary, text_form_within}
+use Rattle.lrat_text.specs.Log.{log_top}
 use Rattle.reports.specs.declared.report.Report.{Report}
 
 -- ---- the files of the names, in turn: of `files` those that were read to their ends
@@ -59,19 +60,19 @@ GoesOn (Refused place number) = Unit {0}
 -- a file of these bytes, read to its end, leads a run from `old` to `new`
 pub record ReadsFile (F : Cnf) (cubes : List Cube) (quiet : Bool) (name bytes : List ℕ) (old new : Gone) : Type 0 where
   pub end : FileOutcome
-  pub tells : IsFileOutcome F cubes (map text_form old.files) (text_form bytes) end
+  pub tells : IsFileOutcome F cubes (map (text_form_within (log_top F)) old.files) (text_form_within (log_top F) bytes) end
   pub goes_on : GoesOn end
   pub is : new ≡ with_file quiet name bytes end old
 
 -- A name leads a run from `old` to `new`: its file does not lead to the proof, and is read to its end; or it cannot be read. The positions
 -- are: formula, cubes, `-q`, that the file does not lead to the proof, its bytes if they are known, the name, `old`, `new`.
 abbrev pub TakesFile : Cnf → List Cube → Bool → Type 0 → Option (List ℕ) → List ℕ → Gone → Gone → Type 0
-TakesFile F cubes quiet free known name old new = (free × Of known (λ bytes. ReadsFile F cubes quiet name bytes old new)) ⊎ (new ≡ without_file name old)
+TakesFile F cubes quiet free known name old new = (free × HoldsOf known (λ bytes. ReadsFile F cubes quiet name bytes old new)) ⊎ (new ≡ without_file name old)
 
 -- a file of these bytes, read after the run `old`, is an answer that satisfies the formula, and the report tells so with status 10
 pub record AnswersBy (F : Cnf) (cubes : List Cube) (witness : Bool) (bytes : List ℕ) (old : Gone) (r : Report) : Type 0 where
   pub values : List Bool
-  pub tells : IsFileOutcome F cubes (map text_form old.files) (text_form bytes) (Satisfies values)
+  pub tells : IsFileOutcome F cubes (map (text_form_within (log_top F)) old.files) (text_form_within (log_top F) bytes) (Satisfies values)
   pub satisfies : Sat (assignment_of values) F
   pub prints : Prints 10 (old.notes ++ satisfied_lines values witness) r
 
@@ -79,7 +80,7 @@ pub record AnswersBy (F : Cnf) (cubes : List Cube) (witness : Bool) (bytes : Lis
 -- positions are: formula, cubes, whether `v` lines are printed, that the file does not lead to the proof, its bytes if they are known,
 -- `old`, the report.
 abbrev pub StopsAt : Cnf → List Cube → Bool → Type 0 → Option (List ℕ) → Gone → Report → Type 0
-StopsAt F cubes witness free known old r = free × Of known (λ bytes. AnswersBy F cubes witness bytes old r)
+StopsAt F cubes witness free known old r = free × HoldsOf known (λ bytes. AnswersBy F cubes witness bytes old r)
 
 -- One of the names ends a run with this report, and those before it lead the run from `a` to that name. The positions are: how a name leads
 -- a run on, how a name ends a run, the names, `a`, the report.
@@ -88,14 +89,15 @@ OneStops Takes Stops [] a r = ⊥
 OneStops Takes Stops (name ∷ names) a r = Stops name a r ⊎ ((b : Gone) × Takes name a b × OneStops Takes Stops names b r)
 
 -- ---- what comes of a join
--- from the disk `old` to `new` the proof is kept, if it is to be written; else the disk is as it was
+-- `IsStored kept old new target proof`: from the disk `old` to `new` the proof is kept at the
+-- target, if there is one; else the disk is as it was
 abbrev pub IsStored : {D : Type 0} → (D → D → List ℕ → List ℕ → Type 0) → D → D → Option Target → List ℕ → Type 0
 IsStored kept old new None proof = new ≡ old
 IsStored kept old new (Some target) proof = Keeps kept old new target.binary target.path.now proof
 
 -- what is reported after a run that closes every leaf: a proof of the formula is kept, and the formula told unsatisfiable, status 20
 pub record Refutes (keeps : List ℕ → Type 0) (F : Cnf) (cubes : List Cube) (s : Gone) (r : Report) : Type 0 where
-  pub closed : AreClosed F cubes (map text_form s.files)
+  pub closed : AreClosed F cubes (map (text_form_within (log_top F)) s.files)
   pub proof : List ℕ
   pub proves : Proves F proof
   pub stands : keeps proof
@@ -104,9 +106,9 @@ pub record Refutes (keeps : List ℕ → Type 0) (F : Cnf) (cubes : List Cube) (
 
 -- what is reported after a run that leaves a leaf open: the open leaves are told, and nothing is kept
 pub record Misses (left : Type 0) (F : Cnf) (cubes : List Cube) (s : Gone) (r : Report) : Type 0 where
-  pub open_leaf : ¬ (AreClosed F cubes (map text_form s.files))
+  pub open_leaf : ¬ (AreClosed F cubes (map (text_form_within (log_top F)) s.files))
   pub left_so : left
-  pub reports : ReportsOpen F cubes (map text_form s.files) s.notes r
+  pub reports : ReportsOpen F cubes (map (text_form_within (log_top F)) s.files) s.notes r
 
 -- The report of a join of the files of these names: all lead the run to its end, or one is an answer that satisfies the formula, and
 -- nothing is kept. The positions are: how a name leads a run on, how a name ends a run, that a proof is kept, that nothing is kept,
@@ -115,7 +117,8 @@ abbrev pub Joins : (List ℕ → Gone → Gone → Type 0) → (List ℕ → Gon
 Joins Takes Stops keeps left F cubes names r =
     ((s : Gone) × AreTaken Takes names none_gone s × (Refutes keeps F cubes s r ⊎ Misses left F cubes s r)) ⊎ (left × OneStops Takes Stops names none_gone r)
 
--- the name does not lead to the file of the proof, if there is one
+-- `IsFree apart target name`: the name does not lead to the file of the proof (the target), if
+-- there is one
 abbrev pub IsFree : (List ℕ → List ℕ → Type 0) → Option Target → List ℕ → Type 0
 IsFree apart None name = Unit {0}
 IsFree apart (Some target) name = apart target.path.now name

@@ -11,8 +11,8 @@ use Rattle.leaves.specs.LeafLift.{lifted_text, proof_fault_text, proof_step_faul
 use Rattle.lidrup.specs.CubeLog.{ComesTo}
 use Rattle.lidrup.specs.Lidrup.{LidrupState, lidrup_of}
 use Rattle.lrat_check.specs.declared.line_checker.CheckFault.{CheckFault}
-use Rattle.lrat_forms.specs.Forms.{is_binary, text_form}
-use Rattle.lrat_text.specs.Log.{Closes}
+use Rattle.lrat_forms.specs.Forms.{is_binary, text_form_within}
+use Rattle.lrat_text.specs.Log.{Closes, log_top}
 use Rattle.proof_lift.specs.Leaves.{IsRefutation}
 use Rattle.proof_lift.specs.Stream.{IsFaultOf}
 use Rattle.reports.specs.declared.report.Report.{Report}
@@ -26,7 +26,7 @@ fault_lines false fault = proof_fault_text fault.line fault.number
 -- 0; or the first fault of the proof is told, and nothing is kept: no refutation by reverse unit propagation alone has one.
 pub data LiftsLeaf (keeps : List ℕ → Type 0) (left : Type 0) (F : Cnf) (q : Cube) (leaf : ℕ) (proof : List ℕ) (r : Report) : Type 0 where
   lifts : (log : List ℕ) → Closes F q log → keeps log → Prints 0 (lifted_text leaf) r → LiftsLeaf keeps left F q leaf proof r
-  refuses : (fault : CheckFault) → IsFaultOf F q (text_form proof) fault → ¬ (IsRefutation (leaf_of q F) (text_form proof)) → left
+  refuses : (fault : CheckFault) → IsFaultOf F q (text_form_within (log_top F) proof) fault → ¬ (IsRefutation (leaf_of q F) (text_form_within (log_top F) proof)) → left
       → Prints 1 (fault_lines (is_binary proof) fault) r → LiftsLeaf keeps left F q leaf proof r
 
 -- What comes of a proof for the leaf of this number, which has this cube; or there is no such leaf, which is told, and nothing is kept. The

@@ -4,8 +4,9 @@ use Rattle.answers.specs.Grammar.{Verifies}
 use Rattle.answers.specs.Parse.{answer_of}
 use Rattle.answers.specs.Reports.{report_status, report_text}
 use Rattle.commands.specs.FormulaTree.{OfFormula, RefusesInput}
-use Rattle.commands.specs.Known.{Of}
+use Rattle.commands.specs.Known.{HoldsOf}
 use Rattle.dimacs.specs.logic.Cnf.{Cnf, Sat}
+use Rattle.dimacs.specs.logic.Limits.{Limits}
 use Rattle.leaves.specs.Leaf.{Prints}
 use Rattle.reports.specs.declared.report.Report.{Report}
 
@@ -22,8 +23,8 @@ pub record Tests (F : Cnf) (answer : List ℕ) (r : Report) : Type 0 where
 
 -- the report tells what the bytes of an answer come to, or that the answer cannot be read
 abbrev pub TellsAnswer : Cnf → Option (List ℕ) → Report → Type 0
-TellsAnswer F answer r = Prints 1 cannot_read_answer_text r ⊎ Of answer (λ bytes. Tests F bytes r)
+TellsAnswer F answer r = Prints 1 cannot_read_answer_text r ⊎ HoldsOf answer (λ bytes. Tests F bytes r)
 
--- the report tells the first fault of the input, or what comes of an answer to its formula
-abbrev pub TestsAnswer : List ℕ → Option (List ℕ) → Report → Type 0
-TestsAnswer input answer r = RefusesInput input r ⊎ OfFormula input (λ F. TellsAnswer F answer r)
+-- the report tells the first fault of the input, read within the limits, or what comes of an answer to its formula
+abbrev pub TestsAnswer : Limits → List ℕ → Option (List ℕ) → Report → Type 0
+TestsAnswer L input answer r = RefusesInput L input r ⊎ OfFormula L input (λ F. TellsAnswer F answer r)

@@ -1,7 +1,7 @@
 -- The names of the files that a command reads in turn, and what a run over them has.
 use Rattle.std.specs.Prelude.{◌≡◌, ◌++◌, ◌∷◌, ◌==◌, ◌+◌, ◌-◌, ◌^◌, ℕ, min, Bool, true, false, List, [], Option, codes, if◌then◌else◌}
 use Rattle.std.specs.Str.{bytes_eq}
-use Rattle.commands.specs.Known.{Of}
+use Rattle.commands.specs.Known.{HoldsOf}
 
 -- the names in the last line of a list, which no LF ends: this one, or none if the line is empty
 abbrev pub last_name : List ℕ → List (List ℕ)
@@ -25,10 +25,11 @@ lists (name ∷ other ∷ names) = false
 
 -- P holds of the names that standard input lists if the flag is true, else of those that are given
 abbrev pub OfListed : Bool → (List ℕ → Option (List ℕ)) → List (List ℕ) → (List (List ℕ) → Type 0) → Type 0
-OfListed true holds names P = Of (holds (codes "-")) (λ list. P (names_of list))
+OfListed true holds names P = HoldsOf (holds (codes "-")) (λ list. P (names_of list))
 OfListed false holds names P = P names
 
--- P holds of the names that are given, or of those that standard input lists if `-` is the only one
+-- `OfNames holds names P`: P holds of the names, or, if `-` is the only one, of the names that
+-- standard input lists, whose bytes `holds` knows
 abbrev pub OfNames : (List ℕ → Option (List ℕ)) → List (List ℕ) → (List (List ℕ) → Type 0) → Type 0
 OfNames holds names P = OfListed (lists names) holds names P
 
@@ -47,7 +48,8 @@ none_gone = record { count = 0; files = []; notes = [] }
 abbrev pub one_more : ℕ → ℕ
 one_more n = min (n + 1) (2 ^ 64 - 1)
 
--- these names, in turn, lead a run from `a` to `c`
+-- `AreTaken Takes names a c`: these names, in turn, lead a run from `a` to `c`, if `Takes` says how
+-- one name leads it on
 abbrev pub AreTaken : (List ℕ → Gone → Gone → Type 0) → List (List ℕ) → Gone → Gone → Type 0
 AreTaken Takes [] a c = c ≡ a
 AreTaken Takes (name ∷ names) a c = (b : Gone) × Takes name a b × AreTaken Takes names b c

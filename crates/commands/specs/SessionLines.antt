@@ -46,10 +46,10 @@ status_of (answer.Failed failure) = 20
 status_of answer.Unknown = 0
 
 -- the status of the last of these answers; without one, `status`
-abbrev pub status_behind : ℕ → List Answer → ℕ
-status_behind status [] = status
-status_behind status (a ∷ answers) = status_behind (status_of a) answers
+abbrev pub status_after : ℕ → List Answer → ℕ
+status_after status [] = status
+status_after status (a ∷ answers) = status_after (status_of a) answers
 
 -- the exit status of a session with these answers: that of the last one; 0 without one
 abbrev pub last_status : List Answer → ℕ
-last_status answers = status_behind 0 answers
+last_status answers = status_after 0 answers

@@ -2,6 +2,7 @@
 use Rattle.std.specs.Prelude.{◌≡◌, ◌⊎◌, ℕ, ◌+◌, List, [], ◌∷◌, ◌++◌, Option, Some, None, map}
 use Rattle.cube_solve.specs.Session.{IfUnknown, IsRightAnswer}
 use Rattle.cube_solve.specs.declared.answer.Answer.{Answer}
+use Rattle.dimacs.specs.logic.Limits.{Limits}
 use Rattle.dimacs.specs.logic.Literal.{Literal}
 use Rattle.icnf.specs.declared.fault.IcnfFault.{IcnfFault}
 use Rattle.incremental.specs.SessionHistory.{IsAccepted, Reaches, Told, told_of}
@@ -29,18 +30,18 @@ abbrev pub told_all : List Answer → Told
 told_all answers = map told_of answers
 
 -- ---- one answer
--- A query A, after the events E and the answers `told`, is given up only after `limit` lemmas. Each lemma takes the next number: from the
--- end of `front`, which reaches the events E, to the end of the proof the greatest number grows by `limit`.
-pub record GivesUp (limit : ℕ) (E : List Event) (A : List Literal) (told : Told) (proof : List ℕ) : Type 0 where
+-- A query A, after the events E, within the limits, and the answers `told`, is given up only after `limit` lemmas. Each lemma takes the
+-- next number: from the end of `front`, which reaches the events E, to the end of the proof the greatest number grows by `limit`.
+pub record GivesUp (L : Limits) (limit : ℕ) (E : List Event) (A : List Literal) (told : Told) (proof : List ℕ) : Type 0 where
   pub front : List ℕ
   pub own : List ℕ
   pub splits : proof ≡ front ++ own
   pub old : State
   pub old_line : ℕ
-  pub before : Reaches E told front old old_line
+  pub before : Reaches L E told front old old_line
   pub new : State
   pub new_line : ℕ
-  pub behind : Reaches (E ++ Asked A ∷ []) (told ++ Unknown ∷ []) proof new new_line
+  pub after : Reaches L (E ++ Asked A ∷ []) (told ++ Unknown ∷ []) proof new new_line
   pub lemmas : new.last ≡ old.last + limit
 
 -- The answer to a query A, after the events E and the answers `told`, at the moment `m`: it is right for the clauses of E, over all
@@ -48,8 +49,8 @@ pub record GivesUp (limit : ℕ) (E : List Event) (A : List Literal) (told : Tol
 pub record IsAnswered (o : Asking) (E : List Event) (A : List Literal) (told : Told) (answer : Answer) (m : Moment) : Type 0 where
   pub right : IsRightAnswer (greatest (E ++ Asked A ∷ [])) (clauses_of E) A (cut (greatest (E ++ Asked A ∷ [])) answer)
   pub printed : m.printed ≡ answer_text o.witness (cut (greatest (E ++ Asked A ∷ [])) answer)
-  pub accepted : IsAccepted (E ++ Asked A ∷ []) (told ++ told_of answer ∷ []) m.proof
-  pub limited : IfUnknown answer (GivesUp o.limit E A told m.proof)
+  pub accepted : IsAccepted o.limits (E ++ Asked A ∷ []) (told ++ told_of answer ∷ []) m.proof
+  pub limited : IfUnknown answer (GivesUp o.limits o.limit E A told m.proof)
 
 -- ---- all answers
 -- After the events E and the answers `told` these events come: each query has its answer and its moment, in order, and a clause has none.
@@ -81,7 +82,7 @@ pub record AllAnswered (has : List ℕ → List Moment → Type 0) (o : Asking) 
   pub answered : AreAnswered o [] [] h.events answers moments
   pub status_is : status ≡ last_status answers
   pub more : List ℕ
-  pub accepted : IsAccepted h.events (told_all answers) (last_proof moments ++ more)
+  pub accepted : IsAccepted o.limits h.events (told_all answers) (last_proof moments ++ more)
   pub out : has (last_proof moments ++ more) moments
 
 -- the report has what is printed after the answers, and the status: those of the first fault of the events, or of the last answer
@@ -89,7 +90,9 @@ abbrev pub EndsAs : Option IcnfFault → ℕ → Report → Type 0
 EndsAs None status r = Prints status [] r
 EndsAs (Some fault) status r = Prints 1 (events_text fault) r
 
--- a session came to the end of its events or to their first fault, all events before it were answered, and the report tells so
+-- `IsWhole has o h r`: a session came to the end of its events (h) or to their first fault, all
+-- events before it were answered, and the report r tells so. `has` says which proof and which
+-- printed texts the outputs have; o has the options.
 abbrev pub IsWhole : (List ℕ → List Moment → Type 0) → Asking → Heard → Report → Type 0
 IsWhole has o h r = (status : ℕ) × AllAnswered has o h status × EndsAs h.fault status r
 
@@ -117,7 +120,7 @@ pub record IsLeft (has : List ℕ → List Moment → Type 0) (o : Asking) (h : 
   pub more : List ℕ
   pub out : has (last_proof moments ++ more) cuts
 
--- a session ended with this report: all events were answered; or not all that was to be printed was, for which `unheard` holds: status 1,
--- and nothing more is printed
+-- `Ends has unheard o h r`: a session ended with the report r. All events (h) were answered; or not
+-- all that was to be printed was, for which `unheard` holds: status 1, and nothing more is printed.
 abbrev pub Ends : (List ℕ → List Moment → Type 0) → Type 0 → Asking → Heard → Report → Type 0
 Ends has unheard o h r = IsWhole has o h r ⊎ (unheard × IsLeft has o h × Prints 1 [] r)

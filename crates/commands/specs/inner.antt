@@ -3,6 +3,7 @@ pub mod FormulaTree
 pub mod Cover
 pub mod EventSource
 pub mod Feed
+pub mod Greatest
 pub mod Join
 pub mod Lift
 pub mod Transfer

@@ -13,7 +13,8 @@ use reports::Refusal;
 /// How many bytes of a packed text are unpacked and written at a time.
 const PIECE: usize = 65_536;
 
-/// Unpacks a text, `PIECE` bytes at a time, and appends it to a file in the making. It errs if memory runs out or a write fails.
+/// Unpacks a text, `PIECE` bytes at a time, and appends it to an unfinished file. It errs
+/// if memory runs out or a write fails.
 fn append_packed<D: Drafts>(
     disk: &D,
     part: &mut Part<D::Draft>,
@@ -32,8 +33,8 @@ fn append_packed<D: Drafts>(
     Ok(())
 }
 
-/// Appends a text to a file in the making, and keeps the file. Answers false if the file cannot be renamed to its path. A file that is not
-/// kept is removed.
+/// Writes a text to a new file, and puts the file at its path (`keep`). Answers false if a
+/// temporary file cannot be renamed to that path. A file that is not put there is removed.
 fn fill<D: Drafts>(
     disk: &mut D,
     mut part: Part<D::Draft>,
@@ -52,8 +53,8 @@ fn fill<D: Drafts>(
     }
 }
 
-/// Creates a file for a target in the given way, and writes a text to it. Answers false if the file cannot be created so, or not be renamed
-/// to its path.
+/// Creates the file of a target, beside its path or in place, and writes a text to it. Answers
+/// false if the file cannot be created so, or not be renamed to its path.
 fn write_by<D: Drafts>(
     disk: &mut D,
     target: Target<'_>,

@@ -8,26 +8,34 @@ ghost use Rattle.log_join.specs.ClosedLeaves.{Leaf, open_from};
 ghost use Rattle.receipts.specs.ClosedLeaves.{LeavesClosedByTexts};
 ghost use Rattle.receipts.specs.Cover.{HasTakenTexts};
 
-use crate::formula::out_of_memory;
+use crate::whole_source::out_of_memory;
 use leaves::{Split, put_leaf};
 use receipts::{Cover, CoverFault};
 use reports::{Refusal, Report};
 use std::alloc::{AllocError, Global};
 
-/// Answers the refusal for a fault of a cover: out of memory, also if there would be 2^48 clauses.
+/// The most variables of a formula whose leaves receipts close: the readers of `receipt` and `cover` take no formula of more. One of more
+/// would be reported as out of memory.
+pub(crate) const MOST: u32 = 1_000_000;
+
+/// Answers `NoMemory` for either fault of a cover: memory was refused, or there would be 2^48
+/// clauses, which do not fit into memory either.
 pub(crate) fn stopped(_fault: CoverFault) -> Refusal
     ensures { result ≡ Refusal.NoMemory }
 {
     Refusal::NoMemory
 }
 
-/// A cover of the tree that has taken no receipt. It errs if memory runs out.
+/// A cover of the tree that has taken no receipt. It errs if memory runs out, or if the formula has
+/// more than `MOST` variables, which no reader of these commands lets pass.
 pub(crate) fn open_cover(alloc: Global, split: &Split) -> Result<Cover, Refusal>
     ensures holds { IfOk result (HasTakenTexts split.now.formula split.now.tree []) }
     ensures refused { IfErr result IsWanting }
 {
     let formula = split.formula();
-    let _ = formula.vars(); // with it comes that they are 2,000,000 at most
+    if formula.vars() > MOST {
+        return Err(Refusal::NoMemory);
+    }
     Cover::of(alloc, formula, split.tree()).map_err(out_of_memory)
 }
 
@@ -44,15 +52,17 @@ fn left_open(alloc: Global, split: &Split, text: &[u8]) -> Result<Vec<usize>, Re
     }
 }
 
-/// Whether the leaf of index `place` is the one at position `at` of `missing`, the rising indexes of the open leaves.
+/// Whether the leaf of index `place` is open: the next one of `missing`, the rising indexes of the
+/// open leaves, at position `at`.
 fn is_next(missing: &[usize], at: usize, place: usize) -> bool
     ensures { result ≡ is_first place (drop at missing.now) }
 {
     at < missing.len() && missing[at] == place
 }
 
-/// Answers the position in the list of open leaves after a leaf was passed: one more than `at` if that leaf was open, else `at`.
-fn passed(at: usize, is_open: bool) -> usize
+/// Answers the position of the next open leaf in the list, after a leaf was passed: one more than
+/// `at` if that leaf was open, else `at`.
+fn position_after(at: usize, is_open: bool) -> usize
     requires { at < 2 ^ 62 }
     ensures { result ≡ (if is_open then at + 1 else at) }
 {
@@ -79,7 +89,7 @@ fn put_closed(out: &mut Vec<u8>, missing: &[usize], count: usize) -> Result<(), 
     for place in 0..count {
         let is_open = is_next(missing, at, place);
         put_if_closed(out, place, is_open)?;
-        at = passed(at, is_open);
+        at = position_after(at, is_open);
     }
     Ok(())
 }

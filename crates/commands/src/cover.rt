@@ -4,13 +4,15 @@ ghost use Rattle.std.specs.Prelude.{map, IfOk, IfErr};
 ghost use Rattle.commands.specs.FormulaTree.{OfQuietTree};
 ghost use Rattle.commands.specs.Names.{OfNames};
 ghost use Rattle.commands.specs.Cover.{IsUncovered, TellsCover};
-ghost use Rattle.commands.specs.Known.{Of};
+ghost use Rattle.commands.specs.Known.{HoldsOf};
 ghost use Rattle.commands.specs.Refusals.{IsRefusedAs, IsWanting};
+ghost use Rattle.dimacs.specs.logic.Limits.{written};
 
 use crate::cover_receipts::{begin_run, take_all};
 use crate::disk::Disk;
 use crate::formula_tree::{Begun, begin_files, hushed};
 use crate::receipt_names::names_of_receipts;
+use dimacs::Limits;
 use leaves::Split;
 use reports::{Refusal, Report};
 
@@ -62,11 +64,11 @@ pub fn cover_files<D: Disk>(
     files: &CoverFiles<'_>,
     names: &[&str],
 ) -> Result<Report, Refusal>
-    ensures covers { IfOk result (λ r. Of (D.holds disk.now files.now.input.now) (λ text. Of (D.holds disk.now files.now.cubes.now) (λ lines. OfQuietTree files.now.quiet text lines
+    ensures covers { IfOk result (λ r. HoldsOf (D.holds disk.now files.now.input.now) (λ text. HoldsOf (D.holds disk.now files.now.cubes.now) (λ lines. OfQuietTree written files.now.quiet text lines
         (λ F tree. OfNames (D.holds disk.now) (map (λ n. n.now) names.now) (λ all. TellsCover (D.holds disk.now) F tree files.now.quiet all r)) r))) }
     ensures refused { IfErr result IsUncovered }
 {
-    let begun = begin_files(disk, files.input, files.cubes)?;
+    let begun = begin_files(disk, Limits::written(), files.input, files.cubes)?;
     match begun {
         Begun::With(split) => cover_tree(disk, &split, names, files.quiet),
         Begun::Refused(report) => Ok(hushed(report, files.quiet)),

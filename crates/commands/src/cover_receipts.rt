@@ -16,8 +16,8 @@ ghost use Rattle.receipts.specs.declared.cover.TextKind.{TextKind};
 
 use crate::closed_leaves::{open_cover, stopped};
 use crate::disk::Disk;
-use crate::formula::out_of_memory;
 use crate::small_file::{SmallText, read_small};
+use crate::whole_source::out_of_memory;
 use leaves::{Note, Split, put_missing, put_note};
 use receipts::{Cover, TextKind};
 use reports::{Refusal, Report};
@@ -57,8 +57,8 @@ pub(crate) fn begin_run(alloc: Global, split: &Split) -> Result<Run, Refusal>
     })
 }
 
-/// Appends the line of the file of number `file` (from 1), whose text is `taken`. It has none if it closes a leaf, or if it closes nothing
-/// and `quiet`.
+/// Appends the line of the file of number `file` (from 1), by what its text is. A receipt that
+/// closes a leaf has no line, nor does one that closes nothing if `quiet`.
 fn put_taken(
     out: &mut Vec<u8>,
     file: u64,
@@ -91,8 +91,8 @@ fn take_text(run: &mut Run, name: &[u8], text: &[u8], quiet: bool) -> Result<(),
     put_taken(&mut run.notes, run.count, taken, name, quiet).map_err(out_of_memory)
 }
 
-/// Counts a file whose text cannot be taken, and appends the line that says so, with `note`.
-fn pass(run: &mut Run, name: &[u8], note: Note) -> Result<(), Refusal>
+/// Counts a file whose text cannot be taken, and appends a line with the reason, `note`.
+fn skip_file(run: &mut Run, name: &[u8], note: Note) -> Result<(), Refusal>
     ensures passed { OnOk result ((F : Cnf) (cubes : List Cube) (s : Gone) → IsGone F cubes s run.old → IsGone F cubes (without_text note name.now s) run.new) }
     ensures refused { IfErr result IsWanting }
 {
@@ -113,7 +113,7 @@ fn read_named<D: Disk>(disk: &D, name: &[u8]) -> Result<SmallText, Refusal>
 
 /// Counts a name, reads its file, takes the text into the cover, and appends its line. A file that is too long, or cannot be read, has a
 /// line that says so; it errs only if memory runs out.
-fn take<D: Disk>(disk: &D, run: &mut Run, name: &[u8], quiet: bool) -> Result<(), Refusal>
+fn take_file<D: Disk>(disk: &D, run: &mut Run, name: &[u8], quiet: bool) -> Result<(), Refusal>
     ensures taken { OnOk result ((F : Cnf) (cubes : List Cube) (s : Gone) → IsGone F cubes s run.old
         → (t : Gone) × TakesText F cubes quiet (D.holds disk.now name.now) name.now s t × IsGone F cubes t run.new) }
     ensures refused { IfErr result IsWanting }
@@ -121,8 +121,8 @@ fn take<D: Disk>(disk: &D, run: &mut Run, name: &[u8], quiet: bool) -> Result<()
     let read = read_named(disk, name)?;
     match read {
         SmallText::Whole(text) => take_text(run, name, &text, quiet),
-        SmallText::TooLong => pass(run, name, Note::TooLong),
-        SmallText::Unread => pass(run, name, Note::Unread),
+        SmallText::TooLong => skip_file(run, name, Note::TooLong),
+        SmallText::Unread => skip_file(run, name, Note::Unread),
     }
 }
 
@@ -138,12 +138,12 @@ pub(crate) fn take_all<D: Disk>(
     ensures refused { IfErr result IsWanting }
 {
     for name in names {
-        take(disk, run, name, quiet)?;
+        take_file(disk, run, name, quiet)?;
     }
     Ok(())
 }
 
-/// Reports, with status 0, that all leaves are closed, after the lines of the files.
+/// The report if all leaves are closed: the lines of the files, and `s COVERED`; status 0.
 fn covered(mut notes: Vec<u8>) -> Result<Report, Refusal>
     ensures text { IfOk result (Prints 0 (notes.items ++ codes "s COVERED\n")) }
     ensures refused { IfErr result IsWanting }
@@ -166,7 +166,8 @@ fn put_open(notes: &mut Vec<u8>, places: &[usize]) -> Result<(), AllocError>
     notes.extend_from_slice(b"s NOT COVERED\n")
 }
 
-/// Reports, with status 1, the open leaves, whose indexes (from 0) are `places`, after the lines of the files.
+/// The report if leaves are open: the lines of the files, a line for each open leaf, by its index
+/// from 0 in `places`, and `s NOT COVERED`; status 1.
 fn uncovered(mut notes: Vec<u8>, places: &[usize]) -> Result<Report, Refusal>
     ensures text { IfOk result (λ r. All (λ p. p + 1 < 2 ^ 64) places.now → Prints 1 (notes.items ++ missing_text places.now ++ codes "s NOT COVERED\n") r) }
     ensures refused { IfErr result IsWanting }
@@ -192,7 +193,7 @@ fn missing(cover: &Cover) -> Result<Vec<usize>, Refusal>
 }
 
 impl Run {
-    /// Reports after the last file whether all leaves are closed, and which are open.
+    /// Makes the report after the last file: whether all leaves are closed, and which are open.
     pub(crate) fn finish(self) -> Result<Report, Refusal>
         ensures ends { IfOk result (λ r. (F : Cnf) (cubes : List Cube) (s : Gone) → IsGone F cubes s self → EndsCover F cubes s r) }
         ensures refused { IfErr result IsWanting }

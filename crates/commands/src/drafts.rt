@@ -27,10 +27,10 @@ pub enum Way {
 
 /// Files that are written, by their paths. Only an implementation states what the operating system does, by the ghost relations.
 pub trait Drafts: Disk {
-    /// A file in the making. It has no `Drop`: each ends by a call of `keep` or `remove`.
+    /// An unfinished file. It has no `Drop`: each ends by a call of `keep` or `remove`.
     type Draft;
 
-    // `made draft path bytes`: the file in the making is for this path, and was given these bytes
+    // `made draft path bytes`: the unfinished file is for this path, and was given these bytes
     ghost made: { Self.Draft → List ℕ → List ℕ → Type 0 } = { λ _ _ _. Unit {0} };
 
     // `kept old new path bytes`: by what was done from the disk `old` to the disk `new`, the file at this path has these bytes
@@ -48,20 +48,22 @@ pub trait Drafts: Disk {
         ensures begun { IfOk result (λ found. IfSome found (λ draft. made draft path.now [])) }
         ensures refused { IfErr result (IsRefusedAs Refusal.Writing) };
 
-    /// Appends bytes to a file in the making.
+    /// Appends bytes to an unfinished file.
     fn append(&self, draft: &mut Self::Draft, bytes: &[u8]) -> Result<(), Refusal>
         ensures written { OnOk result ((path before : List ℕ) → made draft.old path before → made draft.new path (before ++ bytes.now)) }
         ensures refused { IfErr result (IsRefusedAs Refusal.Writing) };
 
-    /// Whether a path leads to a file in the making, or to the file at the path for which that is made.
+    /// Whether a path leads to an unfinished file: to the temporary file, or to the path
+    /// at which it will be put.
     fn leads_to(&self, draft: &Self::Draft, path: &str) -> bool;
 
-    /// Puts a file in the making at its path; a temporary file is renamed. Answers false, and removes the file, if it cannot be renamed.
+    /// Puts a written file at its path; a temporary file is renamed. Answers false, and removes the
+    /// file, if it cannot be renamed.
     fn keep(&mut self, draft: Self::Draft) -> Result<bool, Refusal>
         ensures kept { IfOk result (λ b. IsTrue b → (path bytes : List ℕ) → made draft path bytes → kept self.old self.new path bytes) }
         ensures left { IsLeft self.old self.new result }
         ensures refused { IfErr result (IsRefusedAs Refusal.Writing) };
 
-    /// Gives up a file in the making: a temporary file is removed.
+    /// Gives up an unfinished file: a temporary file is removed.
     fn remove(&self, draft: Self::Draft);
 }

@@ -3,12 +3,14 @@
 ghost use Rattle.std.specs.Prelude.{◌≡◌, ◌≢◌, ◌≤◌, ◌++◌, ℕ, List, [], Option, true, false, max, IfOk, IfErr, MatchResult, OnOk, if◌then◌else◌};
 ghost use Rattle.std.specs.Io.BufRead.{ends_with_byte, strip_last};
 ghost use Rattle.commands.specs.Refusals.{IsRefusedAs, IsWanting};
+ghost use Rattle.commands.specs.inner.Greatest.{counted};
 ghost use Rattle.dimacs.specs.logic.Cnf.{greatest_of as greatest_of_clause};
+ghost use Rattle.dimacs.specs.logic.Limits.{Limits};
 ghost use Rattle.icnf.specs.declared.fault.Kind.TheVariants.{NoMemory};
 ghost use Rattle.sessions.specs.Answers.{Event};
 
 use crate::piece_reader::refused;
-use dimacs::Lit;
+use dimacs::{Limits, Lit};
 use icnf::{IcnfFault, Kind};
 use reports::Refusal;
 use sessions::{EventLines, Sent};
@@ -40,7 +42,7 @@ pub(crate) struct EventSource<B> {
     pub(crate) has_ended: bool,
     /// The greatest variable of the events so far; 0 without one.
     pub(crate) greatest: u32,
-    ghost few: { greatest ≤ 1000000 },
+    ghost few: { greatest ≤ lines.progress.limits.vars },
 }
 
 impl<B: Drop> Drop for EventSource<B> {
@@ -67,7 +69,17 @@ fn greatest_with(literals: &[Lit], number: u32) -> u32
     greatest
 }
 
-/// Answers a fault of the events as what comes next; out of memory is an error instead.
+/// Answers the greatest variable after a line of this kind with these literals; before it that was `number`.
+fn greatest_after(sent: Sent, literals: &[Lit], number: u32) -> u32
+    ensures { result ≡ counted sent literals.now number }
+{
+    match sent {
+        Sent::Nothing => number,
+        Sent::Clause | Sent::Query => greatest_with(literals, number),
+    }
+}
+
+/// Answers a fault of the events as what the next line is; want of memory is an error instead.
 fn faulty(fault: IcnfFault) -> Result<Next, Refusal>
     ensures { MatchResult result (λ next. (next ≡ Next.Faulty fault) × (fault.kind ≢ NoMemory)) IsWanting }
 {
@@ -78,15 +90,16 @@ fn faulty(fault: IcnfFault) -> Result<Next, Refusal>
 }
 
 impl<B: BufRead + Drop> EventSource<B> {
-    ghost use Rattle.commands.specs.inner.EventSource.{AreWithin, Hears, HearsNext, IsClosed, IsWaitingLine, TakesLine, counted};
+    ghost use Rattle.commands.specs.inner.EventSource.{Hears, HearsNext, IsClosed, IsWaitingLine, TakesLine};
 
-    /// A reader of a source that has read no line.
-    pub(crate) fn of(alloc: Global, source: B) -> EventSource<B>
-        ensures { Hears (B.remaining source) B.remaining [] result }
+    /// A reader of a source within these limits that has read no line.
+    pub(crate) fn of(alloc: Global, limits: Limits, source: B) -> EventSource<B>
+        ensures hears { Hears limits (B.remaining source) B.remaining [] result }
+        ensures limits { result.lines.progress.limits ≡ limits }
     {
         EventSource {
             source,
-            lines: EventLines::new(alloc),
+            lines: EventLines::within(alloc, limits),
             read: 0,
             line: Vec::new(alloc),
             has_ended: false,
@@ -104,12 +117,21 @@ impl<B: BufRead + Drop> EventSource<B> {
     /// Answers the greatest variable of the events so far; 0 without one.
     pub(crate) fn greatest(&self) -> u32
         ensures value { result ≡ self.now.greatest }
-        ensures limit { result ≤ 1000000 }
+        ensures limit { result ≤ self.now.lines.progress.limits.vars }
     {
         self.greatest
     }
 
-    /// Removes the LF at the end of the line that was read. A line without one is the last of the source.
+    /// Answers the greatest variable that an event may have.
+    pub(crate) fn most(&self) -> u32
+        ensures value { result ≡ self.now.lines.progress.limits.vars }
+        ensures limit { result ≤ 99999999 }
+    {
+        self.lines.limits().vars()
+    }
+
+    /// Removes the LF at the end of the line that was read. A line without one is the last of the
+    /// source.
     fn end_line(&mut self)
         ensures same { self.new ≡ record self.old { line = self.new.line; has_ended = self.new.has_ended } }
         ensures line { self.new.line.items ≡ strip_last 10 self.old.line.items }
@@ -140,21 +162,7 @@ impl<B: BufRead + Drop> EventSource<B> {
         }
     }
 
-    /// Raises the greatest variable so far to those of the last line, if that is a clause or a query.
-    fn count(&mut self, sent: Sent)
-        requires { AreWithin sent self.old.lines.read.literals }
-        ensures greatest { self.new.greatest ≡ counted sent self.old.lines.read.literals self.old.greatest }
-        ensures same { self.new ≡ record self.old { greatest = self.new.greatest; few = self.new.few } }
-    {
-        match sent {
-            Sent::Nothing => {}
-            Sent::Clause | Sent::Query => {
-                self.greatest = greatest_with(self.lines.literals(), self.greatest);
-            }
-        }
-    }
-
-    /// Answers what comes at the end of the source: `Ended`, or the fault that the events have no header.
+    /// Answers what the end of the source is: `Ended`, or the fault that the events have no header.
     fn close(&self) -> Next
         ensures { IsClosed self.now.read self.now.lines.progress result }
     {
@@ -170,7 +178,7 @@ impl<B: BufRead + Drop> EventSource<B> {
     /// Reads and parses the next line; blocks until it is there. At the end of the source each call answers `Ended`, or the fault that
     /// there is no header. After the fault of a line nothing is promised of later calls. It errs if a read fails or memory runs out.
     pub(crate) fn next(&mut self) -> Result<Next, Refusal>
-        ensures heard { (all : Option (List ℕ)) (E : List Event) → Hears all B.remaining E self.old → IfOk result (HearsNext all B.remaining E self.new) }
+        ensures heard { (L : Limits) (all : Option (List ℕ)) (E : List Event) → Hears L all B.remaining E self.old → IfOk result (HearsNext L all B.remaining E self.new) }
         ensures waits { IfOk result (λ next. IsWaitingLine next self.new.greatest self.new.lines.read.literals) }
         ensures refused { IfErr result (IsRefusedAs Refusal.Input) }
     {
@@ -184,7 +192,7 @@ impl<B: BufRead + Drop> EventSource<B> {
         match self.lines.read(number, &self.line) {
             Ok(sent) => {
                 self.read = number;
-                self.count(sent);
+                self.greatest = greatest_after(sent, self.lines.literals(), self.greatest);
                 Ok(Next::Line(sent))
             }
             Err(fault) => faulty(fault),

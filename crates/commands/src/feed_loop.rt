@@ -42,8 +42,9 @@ pub enum Fed {
     Unread(Refusal),
 }
 
-/// Reads a source piece by piece, and feeds each piece to the taker, until the source ends or a read fails. A source that may have no end,
-/// such as a pipe, is read only until the taker is settled. A read that fails is answered as `Unread`; an error is one of the taker.
+/// Reads a source piece by piece, and feeds each piece to the taker, until the source ends or a
+/// read fails. A source that may have no end, such as a pipe, is read only until the taker is
+/// settled. A read that fails is answered as `Unread`; an error is one of the taker.
 pub fn feed_on<S: Read + Drop, T: Feeds>(
     pieces: &mut Pieces<S>,
     taker: &mut T,

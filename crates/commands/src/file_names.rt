@@ -3,8 +3,8 @@
 ghost use Rattle.std.specs.Prelude.{◌≡◌, ◌≢◌, ◌++◌, ◌∷◌, ℕ, Bool, List, [], map, codes, IfOk, IfErr, OnOk};
 ghost use Rattle.commands.specs.Names.{AreTaken, Gone, OfNames, names_of, none_gone};
 ghost use Rattle.commands.specs.Join.{OneStops, Stops, Takes};
-ghost use Rattle.commands.specs.Known.{Of};
-ghost use Rattle.commands.specs.Refusals.{IsRefusedAs, IsUnread};
+ghost use Rattle.commands.specs.Known.{HoldsOf};
+ghost use Rattle.commands.specs.Refusals.{IsRefusedAs, IsOneOf};
 ghost use Rattle.commands.specs.declared.join_run.JoinOptions.{JoinOptions};
 ghost use Rattle.commands.specs.inner.Join.{Goes, IsAt, IsListing};
 ghost use Rattle.dimacs.specs.logic.Cnf.{Cnf};
@@ -12,16 +12,16 @@ ghost use Rattle.icnf.specs.Leaves.{Cube};
 
 use crate::drafts::Drafts;
 use crate::feed_loop::{Feeds, feed_all};
-use crate::formula::out_of_memory;
-use crate::join_run::{Run, pass, take};
+use crate::join_run::{Run, join_file, skip_name};
 use crate::piece_reader::Pieces;
 use crate::receipt_names::is_list;
+use crate::whole_source::out_of_memory;
 use reports::{Refusal, Report};
 use std::mem;
 use std::str::from_utf8;
 
-/// Joins the files of these names in turn. If one is an answer that satisfies the formula, answers the report of the run, and reads no
-/// further file.
+/// Joins the files of these names in turn. A file that is a solver's answer and satisfies the
+/// formula ends the run: its report is answered, and no further file is read.
 fn take_all<D: Drafts>(run: &mut Run<'_, D>, names: &[&str]) -> Result<Option<Report>, Refusal>
     ensures goes { (F : Cnf) (cubes : List Cube) (s : Gone) → IsAt D.made F cubes s [] s.count run.old.joined.join run.old.joined.part run.old.sheet
         → IfOk result (Goes (λ t. IsAt D.made F cubes t [] t.count run.new.joined.join run.new.joined.part run.new.sheet)
@@ -31,15 +31,16 @@ fn take_all<D: Drafts>(run: &mut Run<'_, D>, names: &[&str]) -> Result<Option<Re
     ensures refused { IfErr result (IsRefusedAs Refusal.Writing) }
 {
     for i in 0..names.len() {
-        if let Some(report) = take(run, names[i])? {
+        if let Some(report) = join_file(run, names[i])? {
             return Ok(Some(report));
         }
     }
     Ok(None)
 }
 
-/// Joins the file of a name from the list. `-`, and a name that is not UTF-8, are noted as a file that cannot be read. Answers the report
-/// of the run if the file is an answer that satisfies the formula.
+/// Joins the file of a name from the list. `-`, and a name that is not UTF-8, are noted as a file
+/// that cannot be read. Answers the report of the run if the file is an answer that satisfies the
+/// formula.
 fn take_named<D: Drafts>(run: &mut Run<'_, D>, name: &[u8]) -> Result<Option<Report>, Refusal>
     ensures goes { (F : Cnf) (cubes : List Cube) (s : Gone) → IsAt D.made F cubes s [] s.count run.old.joined.join run.old.joined.part run.old.sheet
         → IfOk result (Goes (λ t. IsAt D.made F cubes t [] t.count run.new.joined.join run.new.joined.part run.new.sheet)
@@ -48,13 +49,13 @@ fn take_named<D: Drafts>(run: &mut Run<'_, D>, name: &[u8]) -> Result<Option<Rep
     ensures refused { IfErr result (IsRefusedAs Refusal.Writing) }
 {
     match from_utf8(name) {
-        Ok(path) if path != "-" => take(run, path),
-        _ => pass(run, name),
+        Ok(path) if path != "-" => join_file(run, path),
+        _ => skip_name(run, name),
     }
 }
 
-/// A list of names that comes piece by piece, and the join of their files. It has no `Drop`: the file in the making is kept or removed by a
-/// call.
+/// A list of names that comes piece by piece, and the join of their files. It has no `Drop`: the
+/// unfinished file of the proof is kept or removed by a call.
 struct Listing<'a, D: Drafts> {
     /// The join of the files named so far.
     run: Run<'a, D>,
@@ -66,7 +67,7 @@ struct Listing<'a, D: Drafts> {
 
 /// Takes the next byte of a list: an LF ends a name, whose file is joined at once. After an answer that satisfies the formula, bytes are
 /// ignored.
-fn put<D: Drafts>(listing: &mut Listing<'_, D>, byte: u8) -> Result<(), Refusal>
+fn take_byte<D: Drafts>(listing: &mut Listing<'_, D>, byte: u8) -> Result<(), Refusal>
     ensures listed { OnOk result ((disk : D) (options : JoinOptions) (F : Cnf) (cubes : List Cube) (list : List ℕ)
         → IsListing D.made D.holds D.apart disk options F cubes list listing.old.run.joined.disk.now listing.old.run.joined.join listing.old.run.joined.part listing.old.run.sheet listing.old.begun.items listing.old.found
         → IsListing D.made D.holds D.apart disk options F cubes (list ++ byte ∷ []) listing.new.run.joined.disk.now listing.new.run.joined.join listing.new.run.joined.part listing.new.run.sheet listing.new.begun.items listing.new.found) }
@@ -105,13 +106,15 @@ impl<D: Drafts> Feeds for Listing<'_, D> {
         (λ list l. IsListing D.made D.holds D.apart disk options F cubes list l.run.joined.disk.now l.run.joined.join l.run.joined.part l.run.sheet l.begun.items l.found)
         a b c xs ys (h disk options F cubes) (k disk options F cubes) };
 
+    /// Takes the next piece of the list of names; a file is joined when its name has ended.
     fn feed(&mut self, piece: &[u8]) -> Result<(), Refusal> {
         for i in 0..piece.len() {
-            put(self, piece[i])?;
+            take_byte(self, piece[i])?;
         }
         Ok(())
     }
 
+    /// Whether a file satisfies the formula, so that the rest of the list is not read.
     fn is_settled(&self) -> bool {
         self.found.is_some()
     }
@@ -119,7 +122,7 @@ impl<D: Drafts> Feeds for Listing<'_, D> {
 
 /// Ends a list: joins the file of the last name if no LF has ended that. Answers the report of the run if a file is an answer that
 /// satisfies the formula.
-fn last<D: Drafts>(listing: &mut Listing<'_, D>) -> Result<Option<Report>, Refusal>
+fn join_last_name<D: Drafts>(listing: &mut Listing<'_, D>) -> Result<Option<Report>, Refusal>
     ensures goes { (disk : D) (options : JoinOptions) (F : Cnf) (cubes : List Cube) (list : List ℕ)
         → IsListing D.made D.holds D.apart disk options F cubes list listing.old.run.joined.disk.now listing.old.run.joined.join listing.old.run.joined.part listing.old.run.sheet listing.old.begun.items listing.old.found
         → IfOk result (Goes (λ t. IsAt D.made F cubes t [] t.count listing.new.run.joined.join listing.new.run.joined.part listing.new.run.sheet)
@@ -145,19 +148,20 @@ fn take_list<D: Drafts>(
 ) -> Result<Option<Report>, Refusal>
     ensures goes { (disk : D) (options : JoinOptions) (F : Cnf) (cubes : List Cube)
         → IsListing D.made D.holds D.apart disk options F cubes [] listing.old.run.joined.disk.now listing.old.run.joined.join listing.old.run.joined.part listing.old.run.sheet listing.old.begun.items listing.old.found
-        → IfOk result (λ found. Of (D.Source.remaining names.old.source) (λ list. Goes (λ t. IsAt D.made F cubes t [] t.count listing.new.run.joined.join listing.new.run.joined.part listing.new.run.sheet)
+        → IfOk result (λ found. HoldsOf (D.Source.remaining names.old.source) (λ list. Goes (λ t. IsAt D.made F cubes t [] t.count listing.new.run.joined.join listing.new.run.joined.part listing.new.run.sheet)
         (AreTaken (Takes D.holds D.apart disk options F cubes) (names_of list) none_gone)
         (OneStops (Takes D.holds D.apart disk options F cubes) (Stops D.holds D.apart disk options F cubes) (names_of list) none_gone) found)) }
     ensures options { (disk : D) (options : JoinOptions) (F : Cnf) (cubes : List Cube)
         → IsListing D.made D.holds D.apart disk options F cubes [] listing.old.run.joined.disk.now listing.old.run.joined.join listing.old.run.joined.part listing.old.run.sheet listing.old.begun.items listing.old.found
         → OnOk result (listing.new.run.sheet.options ≡ options) }
-    ensures refused { IfErr result (IsUnread names.old.refusal Refusal.Writing) }
+    ensures refused { IfErr result (IsOneOf names.old.refusal Refusal.Writing) }
 {
     feed_all(names, listing)?;
-    last(listing)
+    join_last_name(listing)
 }
 
-/// A join after the last of its names. It has no `Drop`, since the file in the making is kept or removed by a call.
+/// A join after the last of its names. It has no `Drop`: the unfinished file of the proof is kept
+/// or removed by a call.
 pub(crate) struct Through<'a, D: Drafts> {
     pub(crate) run: Run<'a, D>,
     /// The report of the run if a file is an answer that satisfies the formula, else `None`; or the refusal that ended the run.
@@ -167,12 +171,12 @@ pub(crate) struct Through<'a, D: Drafts> {
 /// Joins the files whose names standard input lists, each as soon as its name is there.
 fn take_listed<'a, D: Drafts>(run: Run<'a, D>) -> Through<'a, D>
     ensures goes { (F : Cnf) (cubes : List Cube) → IsAt D.made F cubes none_gone [] 0 run.entry.joined.join run.entry.joined.part run.entry.sheet
-        → IfOk result.found (λ found. Of (D.holds run.entry.joined.disk.now (codes "-")) (λ list. Goes (λ t. IsAt D.made F cubes t [] t.count result.run.joined.join result.run.joined.part result.run.sheet)
+        → IfOk result.found (λ found. HoldsOf (D.holds run.entry.joined.disk.now (codes "-")) (λ list. Goes (λ t. IsAt D.made F cubes t [] t.count result.run.joined.join result.run.joined.part result.run.sheet)
         (AreTaken (Takes D.holds D.apart run.entry.joined.disk.now run.entry.sheet.options F cubes) (names_of list) none_gone)
         (OneStops (Takes D.holds D.apart run.entry.joined.disk.now run.entry.sheet.options F cubes) (Stops D.holds D.apart run.entry.joined.disk.now run.entry.sheet.options F cubes) (names_of list) none_gone) found)) }
     ensures options { (F : Cnf) (cubes : List Cube) → IsAt D.made F cubes none_gone [] 0 run.entry.joined.join run.entry.joined.part run.entry.sheet
         → OnOk result.found (result.run.sheet.options ≡ run.entry.sheet.options) }
-    ensures refused { IfErr result.found (IsUnread Refusal.Proof Refusal.Writing) }
+    ensures refused { IfErr result.found (IsOneOf Refusal.Proof Refusal.Writing) }
 {
     let mut names = match run.joined.disk.open("-", Refusal::Proof) {
         Ok(names) => names,
@@ -206,7 +210,7 @@ pub(crate) fn go_through<'a, D: Drafts>(mut run: Run<'a, D>, names: &[&str]) -> 
         (OneStops (Takes D.holds D.apart run.entry.joined.disk.now run.entry.sheet.options F cubes) (Stops D.holds D.apart run.entry.joined.disk.now run.entry.sheet.options F cubes) all none_gone) found)) }
     ensures options { (F : Cnf) (cubes : List Cube) → IsAt D.made F cubes none_gone [] 0 run.entry.joined.join run.entry.joined.part run.entry.sheet
         → OnOk result.found (result.run.sheet.options ≡ run.entry.sheet.options) }
-    ensures refused { IfErr result.found (IsUnread Refusal.Proof Refusal.Writing) }
+    ensures refused { IfErr result.found (IsOneOf Refusal.Proof Refusal.Writing) }
 {
     if is_list(names) {
         return take_listed(run);

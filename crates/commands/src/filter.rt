@@ -1,7 +1,7 @@
 //! Filters, which take the bytes of one file piece by piece and produce those of another, and the loop that runs a filter over a source.
 
 ghost use Rattle.std.specs.Prelude.{◌≡◌, ◌⊎◌, ◌++◌, ℕ, Bool, List, [], IfOk, IfErr, OnErr, OnOk};
-ghost use Rattle.commands.specs.Known.{Of};
+ghost use Rattle.commands.specs.Known.{HoldsOf};
 ghost use Rattle.commands.specs.Refusals.{IsRefusedAs, IsWanting};
 ghost use Rattle.commands.specs.inner.Parts.{IsPart};
 ghost use Rattle.commands.specs.declared.filter.Ending.{Ending};
@@ -40,26 +40,27 @@ pub(crate) trait Filter {
     // two moves in turn are one move, of the bytes of both
     ghost more: { (a b c : Self) (xs ys us vs : List ℕ) → moved a b xs us → moved b c ys vs → moved a c (xs ++ ys) (us ++ vs) };
 
-    /// Takes the next piece of the input. An error ends the run.
+    /// Gives the next piece of the input to the filter. An error ends the run.
     fn take(&mut self, piece: &[u8]) -> Result<(), Refusal>
         ensures taken { OnOk result (moved self.old self.new piece.now []) }
         ensures refused { IfErr result IsWanting };
 
-    /// Answers the bytes that are produced and not yet handed out.
+    /// Lends the bytes of the output that are not written to the file yet.
     fn waiting(&self) -> &[u8]
         ensures { result.now ≡ out self.now };
 
-    /// Forgets the bytes that `waiting` answers: they were written.
+    /// Drops the bytes that `waiting` lends, after the caller has written them.
     fn hand_out(&mut self)
         ensures { moved self.old self.new [] (out self.old) };
 
-    /// Ends the input: answers the report, and whether the written file is kept.
+    /// Ends the input, and answers the report and whether the written file is kept.
     fn end(self, alloc: Global) -> Result<Ending, Refusal>
         ensures ended { IfOk result (ended self) }
         ensures refused { IfErr result IsWanting };
 }
 
-/// A filter, and the file in the making to which its output is written. It has no `Drop`, since the file is kept or removed by a call.
+/// A filter, and the unfinished file to which its output is appended. It has no `Drop`: the file is
+/// kept or removed by a call.
 pub(crate) struct FilterRun<'a, D: Drafts, P> {
     pub(crate) disk: &'a D,
     /// The file that is written.
@@ -81,6 +82,8 @@ impl<D: Drafts, P: Filter> Feeds for FilterRun<'_, D, P> {
 
     ghost more = { λ a b c xs ys h k. filtered_more D.made P.moved P.more a.part b.part c.part a.taker b.taker c.taker xs ys h k };
 
+    /// Gives a piece of the input to the filter, and appends what that produces to the written
+    /// file.
     fn feed(&mut self, piece: &[u8]) -> Result<(), Refusal> {
         self.taker.take(piece)?;
         append(self.disk, &mut self.part, self.taker.waiting())?;
@@ -88,14 +91,17 @@ impl<D: Drafts, P: Filter> Feeds for FilterRun<'_, D, P> {
         Ok(())
     }
 
+    /// False: a filter's input is read to its end even after a fault, since a later read that fails
+    /// is told instead.
     fn is_settled(&self) -> bool {
         false
     }
 }
 
-/// Ends the written file as the filter ended: appends the last bytes and keeps it, or removes it. Answers the filter's report. A file that
-/// cannot be written or kept is removed, and that is an error.
-fn settle<D: Drafts>(
+/// Does with the written file what the filter's ending says: appends the last bytes and puts it at
+/// its path, or removes it. Answers the filter's report. A file that cannot be written or put there
+/// is removed, and that is an error.
+fn keep_or_remove<D: Drafts>(
     disk: &mut D,
     mut part: Part<D::Draft>,
     ending: Ending,
@@ -123,7 +129,8 @@ fn settle<D: Drafts>(
     }
 }
 
-/// Ends a filter whose input was read to its end, and keeps or removes the written file. Answers the filter's report.
+/// Ends a filter whose input was read to its end, and puts the written file at its path or removes
+/// it, as the filter says. Answers the filter's report.
 fn finish<D: Drafts, P: Filter>(
     disk: &mut D,
     part: Part<D::Draft>,
@@ -134,7 +141,7 @@ fn finish<D: Drafts, P: Filter>(
     ensures refused { IfErr result (IsRefusedAs Refusal.Writing) }
 {
     match taker.end(disk.alloc()) {
-        Ok(ending) => settle(disk, part, ending),
+        Ok(ending) => keep_or_remove(disk, part, ending),
         Err(refusal) => {
             remove(disk, part);
             Err(refusal)
@@ -158,7 +165,7 @@ fn feed_part<D: Drafts, P: Filter>(
     part: Part<D::Draft>,
     taker: P,
 ) -> Filtered<D::Draft, P>
-    ensures poured { OnOk result.read (Of (D.Source.remaining pieces.source) (λ bytes. HasFiltered D.made P.moved part result.part taker result.taker bytes)) }
+    ensures poured { OnOk result.read (HoldsOf (D.Source.remaining pieces.source) (λ bytes. HasFiltered D.made P.moved part result.part taker result.taker bytes)) }
     ensures refused { IfErr result.read (λ f. IsRefusedAs pieces.refusal f ⊎ (f ≡ Refusal.Writing)) }
 {
     let mut run = FilterRun { disk, part, taker };
@@ -180,7 +187,7 @@ pub(crate) fn run_filter<D: Drafts, P: Filter + Drop>(
     taker: P,
 ) -> Result<Report, Refusal>
     ensures poured { (binary : Bool) (path : List ℕ) → IsPart D.made binary path [] part
-        → IfOk result (λ r. Of (D.Source.remaining pieces.source) (λ bytes. IsFiltered P.moved P.ended D.kept disk.old disk.new binary path taker bytes r)) }
+        → IfOk result (λ r. HoldsOf (D.Source.remaining pieces.source) (λ bytes. IsFiltered P.moved P.ended D.kept disk.old disk.new binary path taker bytes r)) }
     ensures left { OnErr result (disk.new ≡ disk.old) }
     ensures refused { IfErr result (λ f. IsRefusedAs pieces.refusal f ⊎ (f ≡ Refusal.Writing)) }
 {

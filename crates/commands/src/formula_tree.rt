@@ -4,9 +4,10 @@ ghost use Rattle.std.specs.Prelude.{◌≡◌, ◌≢◌, ℕ, List, Ok, Err, []
 ghost use Rattle.commands.specs.FormulaTree.{Begins, IsHushed, cubes_text};
 ghost use Rattle.commands.specs.inner.FormulaTree.{ReadsTree};
 ghost use Rattle.commands.specs.inner.Feed.{Extends};
-ghost use Rattle.commands.specs.Known.{Of};
-ghost use Rattle.commands.specs.Refusals.{IsRefusedAs, IsUnread, IsWanting};
-ghost use Rattle.dimacs.specs.text.Parser.{GivesFormula, parse, no_memory};
+ghost use Rattle.commands.specs.Known.{HoldsOf};
+ghost use Rattle.commands.specs.Refusals.{IsRefusedAs, IsOneOf, IsWanting};
+ghost use Rattle.dimacs.specs.logic.Limits.{Limits};
+ghost use Rattle.dimacs.specs.text.Parser.{GivesFormula, parse_within, no_memory};
 ghost use Rattle.icnf.specs.Parser.{no_memory as no_cubes_memory};
 ghost use Rattle.icnf.specs.declared.cubes_fault.CubesFault.TheVariants.{Faulty};
 ghost use Rattle.leaves.specs.Leaf.{Prints};
@@ -14,9 +15,9 @@ ghost use Rattle.reports.specs.Faults.{input_fault_text};
 
 use crate::disk::Disk;
 use crate::feed_loop::{Feeds, feed_all};
-use crate::formula::{out_of_memory, read_formula};
 use crate::piece_reader::Pieces;
-use dimacs::{DimacsFault, Formula, Kind};
+use crate::whole_source::{out_of_memory, read_formula};
+use dimacs::{DimacsFault, Formula, Kind, Limits};
 use icnf::{CubesFault, Kind as CubesKind};
 use leaves::{Split, SplitReader};
 use reports::{Refusal, Report, faulty_cubes, faulty_input, other_formula};
@@ -43,12 +44,13 @@ struct TreeText {
 impl Feeds for TreeText {
     ghost use Rattle.commands.specs.inner.Feed.{extends_nothing, extends_more};
 
-    ghost took = { λ old new more. (input : List ℕ) → Extends (λ cubes t. ReadsTree input cubes t.reader) old new more };
+    ghost took = { λ old new more. (L : Limits) (input : List ℕ) → Extends (λ cubes t. ReadsTree L input cubes t.reader) old new more };
 
-    ghost nothing = { λ s input. extends_nothing (λ cubes t. ReadsTree input cubes t.reader) s };
+    ghost nothing = { λ s L input. extends_nothing (λ cubes t. ReadsTree L input cubes t.reader) s };
 
-    ghost more = { λ a b c xs ys h k input. extends_more (λ cubes t. ReadsTree input cubes t.reader) a b c xs ys (h input) (k input) };
+    ghost more = { λ a b c xs ys h k L input. extends_more (λ cubes t. ReadsTree L input cubes t.reader) a b c xs ys (h L input) (k L input) };
 
+    /// Gives the next piece of the cubes' file to their reader, unless the formula had a fault.
     fn feed(&mut self, piece: &[u8]) -> Result<(), Refusal> {
         if let Ok(reader) = &mut self.reader {
             reader.feed(piece);
@@ -56,6 +58,8 @@ impl Feeds for TreeText {
         Ok(())
     }
 
+    /// False: the cubes are read to their end even after a fault, so that a read that fails is told
+    /// first.
     fn is_settled(&self) -> bool {
         false
     }
@@ -89,9 +93,10 @@ pub fn refused_input(alloc: Global, fault: DimacsFault) -> Result<Report, Refusa
     faulty_input(alloc, fault).map_err(out_of_memory)
 }
 
-/// Ends the file of cubes: answers the formula with their tree, or the report of the first fault of the formula, else of the cubes.
+/// Ends the file of cubes: answers the formula with their tree, or the report of the first fault of
+/// the formula, else of the cubes.
 fn ended(alloc: Global, text: TreeText) -> Result<Begun, Refusal>
-    ensures begins { (input cubes : List ℕ) → ReadsTree input cubes text.reader → IfOk result (Begins input cubes) }
+    ensures begins { (L : Limits) (input cubes : List ℕ) → ReadsTree L input cubes text.reader → IfOk result (Begins L input cubes) }
     ensures refused { IfErr result IsWanting }
 {
     let TreeText { reader } = text;
@@ -104,47 +109,58 @@ fn ended(alloc: Global, text: TreeText) -> Result<Begun, Refusal>
     }
 }
 
-/// A reader of cubes that has read no byte, after an input in which a formula or a fault was found.
-fn opened(alloc: Global, found: Result<Formula, DimacsFault>) -> Result<TreeText, Refusal>
-    ensures reads { IfOk result (λ t. (input : List ℕ) → GivesFormula found (parse input) → ReadsTree input [] t.reader) }
+/// A reader of cubes that has read no byte, for the formula that was found in an input; a fault of
+/// the input is kept in place of the reader.
+fn opened(
+    alloc: Global,
+    limits: Limits,
+    found: Result<Formula, DimacsFault>,
+) -> Result<TreeText, Refusal>
+    ensures reads { IfOk result (λ t. (input : List ℕ) → GivesFormula found (parse_within limits input) → ReadsTree limits input [] t.reader) }
     ensures refused { IfErr result IsWanting }
 {
     let reader = match found {
-        Ok(formula) => SplitReader::new(alloc, formula).map_err(out_of_memory)?,
+        Ok(formula) => SplitReader::within(alloc, limits, formula).map_err(out_of_memory)?,
         Err(fault) => return Ok(TreeText { reader: Err(fault) }),
     };
     Ok(TreeText { reader: Ok(reader) })
 }
 
-/// Reads the cubes after an input in which a formula or a fault was found. Answers the formula with their tree, or the report of the first
-/// fault of the formula, else of the cubes. It errs if the cubes cannot be read or memory runs out.
-fn begin<S: Read + Drop>(
+/// Reads the cubes, within these limits, after an input in which a formula or a fault was found. Answers the formula with their tree, or
+/// the report of the first fault of the formula, else of the cubes. It errs if the cubes cannot be read or memory runs out.
+fn begin_tree<S: Read + Drop>(
     alloc: Global,
+    limits: Limits,
     found: Result<Formula, DimacsFault>,
     cubes: &mut Pieces<S>,
 ) -> Result<Begun, Refusal>
-    ensures begins { (input : List ℕ) → GivesFormula found (parse input)
-        → IfOk result (λ b. Of (S.remaining cubes.old.source) (λ text. Begins input text b)) }
+    ensures begins { (input : List ℕ) → GivesFormula found (parse_within limits input)
+        → IfOk result (λ b. HoldsOf (S.remaining cubes.old.source) (λ text. Begins limits input text b)) }
     ensures refused { IfErr result (IsRefusedAs cubes.old.refusal) }
 {
-    let mut text = opened(alloc, found)?;
+    let mut text = opened(alloc, limits, found)?;
     feed_all(cubes, &mut text)?;
     ended(alloc, text)
 }
 
-/// Reads the formula in the file `input`, and the tree of its cubes in the file `cubes`. Answers both, or the report of the first fault of
-/// the formula, else of the cubes. It errs if a file cannot be read, even if the other one has a fault.
-pub fn begin_files<D: Disk>(disk: &D, input: &str, cubes: &str) -> Result<Begun, Refusal>
-    ensures begins { IfOk result (λ b. Of (D.holds disk.now input.now) (λ text. Of (D.holds disk.now cubes.now) (λ tree. Begins text tree b))) }
-    ensures refused { IfErr result (IsUnread Refusal.Input Refusal.Cubes) }
+/// Reads the formula in the file `input`, and the tree of its cubes in the file `cubes`, both within these limits. Answers both, or the
+/// report of the first fault of the formula, else of the cubes. It errs if a file cannot be read, even if the other one has a fault.
+pub fn begin_files<D: Disk>(
+    disk: &D,
+    limits: Limits,
+    input: &str,
+    cubes: &str,
+) -> Result<Begun, Refusal>
+    ensures begins { IfOk result (λ b. HoldsOf (D.holds disk.now input.now) (λ text. HoldsOf (D.holds disk.now cubes.now) (λ tree. Begins limits text tree b))) }
+    ensures refused { IfErr result (IsOneOf Refusal.Input Refusal.Cubes) }
 {
     let mut text = disk.open(input, Refusal::Input)?;
-    let found = read_formula(disk.alloc(), &mut text)?;
+    let found = read_formula(disk.alloc(), limits, &mut text)?;
     let mut tree = disk.open(cubes, Refusal::Cubes)?;
-    begin(disk.alloc(), found, &mut tree)
+    begin_tree(disk.alloc(), limits, found, &mut tree)
 }
 
-/// Removes the text of a report if `quiet` (`-q`); its status stays.
+/// Removes the text of a report if the user asked for quiet (`-q`); its status stays.
 pub fn hushed(mut report: Report, quiet: bool) -> Report
     ensures { IsHushed quiet report result }
 {

@@ -4,8 +4,8 @@ ghost use Rattle.std.specs.Prelude.{◌≡◌, ◌≢◌, ◌⊎◌, ◌++◌, �
 ghost use Rattle.commands.specs.FormulaTree.{OfQuietTree};
 ghost use Rattle.commands.specs.Names.{AreTaken, Gone, OfNames, none_gone};
 ghost use Rattle.commands.specs.Join.{IsApart, IsStored, Joins, Misses, OneStops, Refutes, Stops, Takes};
-ghost use Rattle.commands.specs.Known.{Of};
-ghost use Rattle.commands.specs.Refusals.{IsRefusedAs, IsUnlifted, IsUnread, IsWanting};
+ghost use Rattle.commands.specs.Known.{HoldsOf};
+ghost use Rattle.commands.specs.Refusals.{IsRefusedAs, IsUnreadOrUnwritten, IsOneOf, IsWanting};
 ghost use Rattle.commands.specs.declared.drafts.Target.{Target};
 ghost use Rattle.commands.specs.declared.join_run.JoinOptions.{JoinOptions};
 ghost use Rattle.commands.specs.inner.Join.{Goes, HasPart, IsAt, IsSettled};
@@ -15,10 +15,11 @@ ghost use Rattle.icnf.specs.Leaves.{Cube};
 
 use crate::drafts::{Drafts, Way};
 use crate::file_names::{Through, go_through};
-use crate::formula::out_of_memory;
 use crate::formula_tree::{Begun, begin_files, hushed};
 use crate::join_run::{JoinOptions, Joined, Run, Sheet, stopped, write};
 use crate::part_file::{Part, keep, part_of, remove};
+use crate::whole_source::out_of_memory;
+use dimacs::Limits;
 use leaves::Split;
 use reports::{Refusal, Report};
 use std::alloc::Global;
@@ -49,7 +50,8 @@ fn finish<D: Drafts>(run: &mut Run<'_, D>) -> Result<Report, Refusal>
     Ok(report)
 }
 
-/// Answers the report of a join: `found`, if a file is an answer that satisfies the formula, else that of the end of the join.
+/// Answers the report of a join: `found`, if a file is an answer that satisfies the formula; else
+/// the join is ended, and has its own.
 fn reported<D: Drafts>(run: &mut Run<'_, D>, found: Option<Report>) -> Result<Report, Refusal>
     ensures joins { (disk : D) (options : JoinOptions) (F : Cnf) (cubes : List Cube) (names : List (List ℕ))
         → Goes (λ t. IsAt D.made F cubes t [] t.count run.old.joined.join run.old.joined.part run.old.sheet)
@@ -64,14 +66,16 @@ fn reported<D: Drafts>(run: &mut Run<'_, D>, found: Option<Report>) -> Result<Re
     }
 }
 
-/// The report of a join, and the file in the making of its proof, which has no `Drop`.
+/// The report of a join, and the unfinished file of its proof. It has no `Drop`: the file is kept
+/// or removed by a call.
 struct Outcome<E> {
     /// `None` if no proof is written.
     part: Option<Part<E>>,
     found: Result<Report, Refusal>,
 }
 
-/// Answers this report of a join with the file in the making of its proof.
+/// Takes a run apart: answers this report with the unfinished file of the proof, which is kept or
+/// removed by it.
 fn outcome_of<D: Drafts>(run: Run<'_, D>, found: Result<Report, Refusal>) -> Outcome<D::Draft>
     ensures part { result.part ≡ run.entry.joined.part }
     ensures found { result.found ≡ found }
@@ -85,7 +89,8 @@ fn outcome_of<D: Drafts>(run: Run<'_, D>, found: Result<Report, Refusal>) -> Out
     Outcome { part, found }
 }
 
-/// Ends a join after the last of its names: answers its report, and the file in the making of its proof.
+/// Ends a join after the last of its names: answers its report, and the unfinished file of its
+/// proof.
 fn concluded<D: Drafts>(through: Through<'_, D>) -> Outcome<D::Draft>
     ensures joins { (disk : D) (options : JoinOptions) (F : Cnf) (cubes : List Cube) (known : List ℕ → Option (List ℕ)) (names : List (List ℕ))
         → IfOk through.entry.found (λ found. OfNames known names (λ all. Goes (λ t. IsAt D.made F cubes t [] t.count through.entry.run.joined.join through.entry.run.joined.part through.entry.run.sheet)
@@ -93,7 +98,7 @@ fn concluded<D: Drafts>(through: Through<'_, D>) -> Outcome<D::Draft>
         (OneStops (Takes D.holds D.apart disk options F cubes) (Stops D.holds D.apart disk options F cubes) all none_gone) found))
         → IfOk result.found (λ r. OfNames known names (λ all. Joins (Takes D.holds D.apart disk options F cubes) (Stops D.holds D.apart disk options F cubes) (λ proof. HasPart D.made through.entry.run.sheet.options.proof proof result.part) (Unit {0}) F cubes all r)) }
     ensures found { OnOk result.found (IsOk through.entry.found) }
-    ensures refused { IfErr through.entry.found (IsUnread Refusal.Proof Refusal.Writing) → IfErr result.found (IsUnread Refusal.Proof Refusal.Writing) }
+    ensures refused { IfErr through.entry.found (IsOneOf Refusal.Proof Refusal.Writing) → IfErr result.found (IsOneOf Refusal.Proof Refusal.Writing) }
 {
     let Through { mut run, found } = through;
     match found {
@@ -105,8 +110,8 @@ fn concluded<D: Drafts>(through: Through<'_, D>) -> Outcome<D::Draft>
     }
 }
 
-/// Joins the files of these names, or of those that standard input lists if `-` is the only one, and appends the proof to `part`. Answers
-/// the report and the file in the making.
+/// Joins the files of these names, or of those that standard input lists if `-` is the only one,
+/// and appends the proof to `part`. Answers the report and the unfinished file of the proof.
 fn join_names<D: Drafts>(
     disk: &D,
     join: FormJoin,
@@ -116,7 +121,7 @@ fn join_names<D: Drafts>(
 ) -> Outcome<D::Draft>
     ensures joins { (F : Cnf) (cubes : List Cube) → HasReadFormFiles F cubes [] [] [] join → HasPart D.made options.entry.proof [] part
         → IfOk result.found (λ r. OfNames (D.holds disk.now) (map (λ n. n.now) names.now) (λ all. Joins (Takes D.holds D.apart disk.now options.entry F cubes) (Stops D.holds D.apart disk.now options.entry F cubes) (λ proof. HasPart D.made options.entry.proof proof result.part) (Unit {0}) F cubes all r)) }
-    ensures refused { IfErr result.found (IsUnread Refusal.Proof Refusal.Writing) }
+    ensures refused { IfErr result.found (IsOneOf Refusal.Proof Refusal.Writing) }
 {
     let sheet = Sheet {
         options,
@@ -130,7 +135,7 @@ fn join_names<D: Drafts>(
     concluded(go_through(run, names))
 }
 
-/// Keeps the file of the proof, if one is written. It errs if the file cannot be put at its path.
+/// Puts the file of the proof at its path, if a proof is written. It errs if that cannot be done.
 fn keep_some<D: Drafts>(disk: &mut D, part: Option<Part<D::Draft>>) -> Result<(), Refusal>
     ensures kept { OnOk result ((target : Option Target) (proof : List ℕ) → HasPart D.made target proof part → IsStored D.kept disk.old disk.new target proof) }
     ensures left { OnErr result (disk.new ≡ disk.old) }
@@ -156,11 +161,12 @@ fn remove_some<D: Drafts>(disk: &D, part: Option<Part<D::Draft>>) {
     }
 }
 
-/// Keeps the file of the proof if the status of the report is 20, and else removes it. Answers the report.
-fn settle<D: Drafts>(disk: &mut D, outcome: Outcome<D::Draft>) -> Result<Report, Refusal>
+/// Puts the file of the proof at its path if the status of the report is 20 (the formula is
+/// refuted), and else removes it. Answers the report.
+fn keep_if_closed<D: Drafts>(disk: &mut D, outcome: Outcome<D::Draft>) -> Result<Report, Refusal>
     ensures settled { IfOk result (IsSettled D.made D.kept disk.old disk.new outcome.part outcome.found) }
     ensures left { OnErr result (disk.new ≡ disk.old) }
-    ensures refused { IfErr outcome.found (IsUnread Refusal.Proof Refusal.Writing) → IfErr result (IsUnread Refusal.Proof Refusal.Writing) }
+    ensures refused { IfErr outcome.found (IsOneOf Refusal.Proof Refusal.Writing) → IfErr result (IsOneOf Refusal.Proof Refusal.Writing) }
 {
     let Outcome { part, found } = outcome;
     match found {
@@ -209,8 +215,8 @@ fn begin_join(alloc: Global, split: Split) -> Result<FormJoin, Refusal>
     FormJoin::of(alloc, split).map_err(out_of_memory)
 }
 
-/// Joins the files of these names over a formula and the tree of its cubes, and keeps the proof if they close all leaves. Answers the
-/// report.
+/// Runs a join over a formula and the tree of its cubes: joins the files of these names, and keeps
+/// the proof if they close all leaves. Answers the report.
 fn gather<D: Drafts>(
     disk: &mut D,
     files: &JoinFiles<'_>,
@@ -222,30 +228,32 @@ fn gather<D: Drafts>(
     ensures dropped { IfOk result (λ r. r.status ≢ 20 → disk.new ≡ disk.old) }
     ensures apart { OnOk result (IsApart D.apart disk.old files.now) }
     ensures left { OnErr result (disk.new ≡ disk.old) }
-    ensures refused { IfErr result (IsUnread Refusal.Proof Refusal.Writing) }
+    ensures refused { IfErr result (IsOneOf Refusal.Proof Refusal.Writing) }
 {
     let join = begin_join(disk.alloc(), split)?;
     let part = begin_proof(disk, files)?;
     let outcome = join_names(disk, join, part, files.options, names);
-    settle(disk, outcome)
+    keep_if_closed(disk, outcome)
 }
 
 /// Joins the files of these names, or of those that standard input lists if `-` is the only one, to a proof of the formula in
-/// `files.input`, and answers the report. The proof is written whole or not at all, and never over a file that is read.
+/// `files.input`, and answers the report. The proof is written whole or not at all, and never over a file that is read. The formula and the
+/// cubes are read within these limits.
 pub fn join_files<D: Drafts>(
     disk: &mut D,
+    limits: Limits,
     files: &JoinFiles<'_>,
     names: &[&str],
 ) -> Result<Report, Refusal>
-    ensures joins { IfOk result (λ r. Of (D.holds disk.old files.now.input.now) (λ text. Of (D.holds disk.old files.now.cubes.now) (λ lines. OfQuietTree files.now.options.quiet text lines
+    ensures joins { IfOk result (λ r. HoldsOf (D.holds disk.old files.now.input.now) (λ text. HoldsOf (D.holds disk.old files.now.cubes.now) (λ lines. OfQuietTree limits files.now.options.quiet text lines
         (λ F tree. OfNames (D.holds disk.old) (map (λ n. n.now) names.now) (λ all. Joins (Takes D.holds D.apart disk.old files.now.options F tree) (Stops D.holds D.apart disk.old files.now.options F tree)
         (IsStored D.kept disk.old disk.new files.now.options.proof) (disk.new ≡ disk.old) F tree all r)) r))) }
     ensures dropped { IfOk result (λ r. r.status ≢ 20 → disk.new ≡ disk.old) }
     ensures apart { IfOk result (λ r. r.status ≡ 20 → IsApart D.apart disk.old files.now) }
     ensures left { OnErr result (disk.new ≡ disk.old) }
-    ensures refused { IfErr result IsUnlifted }
+    ensures refused { IfErr result IsUnreadOrUnwritten }
 {
-    let begun = begin_files(disk, files.input, files.cubes)?;
+    let begun = begin_files(disk, limits, files.input, files.cubes)?;
     match begun {
         Begun::With(split) => gather(disk, files, names, split),
         Begun::Refused(report) => Ok(hushed(report, files.options.quiet)),

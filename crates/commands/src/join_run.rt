@@ -3,7 +3,7 @@
 ghost use Rattle.std.specs.Prelude.{◌≡◌, ◌≢◌, ◌⊎◌, ◌++◌, ◌∷◌, ℕ, Bool, false, List, [], Option, None, map, IfOk, IfErr, OnOk};
 ghost use Rattle.commands.specs.Join.{AnswersBy, IsFree, ReadsFile, Stops, Takes, fault_note as note_of, without_file};
 ghost use Rattle.commands.specs.Names.{Gone, one_more};
-ghost use Rattle.commands.specs.Known.{Of};
+ghost use Rattle.commands.specs.Known.{HoldsOf};
 ghost use Rattle.commands.specs.Refusals.{IsRefusedAs, IsWanting};
 ghost use Rattle.commands.specs.declared.drafts.Target.{Target};
 ghost use Rattle.commands.specs.inner.Join.{Ends, Goes, HasPart, IsAt, IsKept, Stands, TakesSome, Tells};
@@ -16,9 +16,9 @@ ghost use Rattle.leaves.specs.Notes.{note_text};
 
 use crate::drafts::{Drafts, Target};
 use crate::feed_loop::{Fed, Feeds, feed_on};
-use crate::formula::out_of_memory;
 use crate::part_file::{Part, append};
 use crate::piece_reader::Pieces;
+use crate::whole_source::out_of_memory;
 use dimacs::{Answer, Assignment, answer_lines};
 use leaves::{FileOutcome, Note, put_note};
 use log_join::LogJoinFault;
@@ -37,7 +37,8 @@ pub struct JoinOptions<'a> {
     pub witness: bool,
 }
 
-/// Answers the refusal for a fault of a join: out of memory, or `Writing` for any other.
+/// Answers the refusal for a fault of a join: `NoMemory` for want of memory, and `Writing` for a
+/// proof whose numbers grow too large.
 pub fn stopped(fault: LogJoinFault) -> Refusal
     ensures { IsRefusedAs Refusal.Writing result }
 {
@@ -47,7 +48,8 @@ pub fn stopped(fault: LogJoinFault) -> Refusal
     }
 }
 
-/// A join, and the file in the making of its proof, which has no `Drop`.
+/// A join, and the unfinished file of its proof. It has no `Drop`: the file is kept or removed by
+/// a call.
 pub(crate) struct Joined<'a, D: Drafts> {
     pub(crate) disk: &'a D,
     pub(crate) join: FormJoin,
@@ -97,11 +99,14 @@ impl<D: Drafts> Feeds for Joined<'_, D> {
 
     ghost more = { λ a b c xs ys h k. joined_on_more D.made a.disk b.disk c.disk a.join b.join c.join a.part b.part c.part xs ys h k };
 
+    /// Joins the next piece of a file, and writes what that adds to the proof.
     fn feed(&mut self, piece: &[u8]) -> Result<(), Refusal> {
         self.join.feed(piece).map_err(stopped)?;
         write(self)
     }
 
+    /// False: a file is read to its end even after a fault, so that one that cannot be read is told
+    /// as that.
     fn is_settled(&self) -> bool {
         false
     }
@@ -116,7 +121,8 @@ pub(crate) struct Ended {
     pub(crate) is_binary: bool,
 }
 
-/// Ends a file that was read to its end, and appends to the proof what the join produces then. Answers what the file is.
+/// Ends a file that was read to its end, and appends the end of its part of the proof. Answers what
+/// the file is.
 fn end_file<D: Drafts>(joined: &mut Joined<'_, D>) -> Result<Ended, Refusal>
     ensures ends { IfOk result (λ e. Ends D.made joined.old.join joined.new.join joined.old.part joined.new.part e) }
     ensures disk { joined.new.disk ≡ joined.old.disk }
@@ -128,7 +134,8 @@ fn end_file<D: Drafts>(joined: &mut Joined<'_, D>) -> Result<Ended, Refusal>
     Ok(Ended { end, is_binary })
 }
 
-/// Abandons a file in which a read failed: what was read of it closes nothing. Appends to the proof what the join produces then.
+/// Gives up a file in which a read failed: what was read of it closes nothing. Appends the end of
+/// its part to the proof.
 fn abandon<D: Drafts>(joined: &mut Joined<'_, D>) -> Result<(), Refusal>
     ensures stands { OnOk result ((target : Option Target) (F : Cnf) (cubes : List Cube) (files : List (List ℕ)) (bytes : List ℕ)
         → Stands D.made target F cubes files bytes joined.old.join joined.old.part → Stands D.made target F cubes files [] joined.new.join joined.new.part) }
@@ -193,7 +200,7 @@ fn fault_note(is_binary: bool, place: u64, number: u8) -> Note
 }
 
 /// Appends a line for the last name that was counted: its count, the note and the name.
-fn note(sheet: &mut Sheet<'_>, note: Note, name: &[u8]) -> Result<(), Refusal>
+fn put_file_note(sheet: &mut Sheet<'_>, note: Note, name: &[u8]) -> Result<(), Refusal>
     ensures line { OnOk result (sheet.new.notes.items ≡ sheet.old.notes.items ++ note_text sheet.old.count note name.now) }
     ensures same { IsKept sheet.old sheet.new }
     ensures refused { IfErr result IsWanting }
@@ -201,8 +208,9 @@ fn note(sheet: &mut Sheet<'_>, note: Note, name: &[u8]) -> Result<(), Refusal>
     put_note(&mut sheet.notes, sheet.count, note, name).map_err(out_of_memory)
 }
 
-/// Appends the line of a file, if what it is has one. Answers the report of the run if the file is an answer that satisfies the formula.
-fn told(
+/// Appends the line of a file that closes no leaf, with the reason. Answers the report of the run
+/// if the file is an answer that satisfies the formula.
+fn tell_outcome(
     alloc: Global,
     sheet: &mut Sheet<'_>,
     ended: Ended,
@@ -217,12 +225,12 @@ fn told(
         FileOutcome::Closes => Ok(None),
         FileOutcome::ClosesNothing => {
             if !sheet.options.quiet {
-                note(sheet, Note::ClosesNothing, name)?;
+                put_file_note(sheet, Note::ClosesNothing, name)?;
             }
             Ok(None)
         }
         FileOutcome::Refused { line, number } => {
-            note(sheet, fault_note(is_binary, line, number), name)?;
+            put_file_note(sheet, fault_note(is_binary, line, number), name)?;
             Ok(None)
         }
         FileOutcome::Satisfies(values) => {
@@ -240,7 +248,7 @@ pub(crate) struct Run<'a, D: Drafts> {
 
 /// Ends a file that was read to its end, and appends its line. Answers the report of the run if the file is an answer that satisfies the
 /// formula.
-fn close<D: Drafts>(run: &mut Run<'_, D>, name: &[u8]) -> Result<Option<Report>, Refusal>
+fn end_named_file<D: Drafts>(run: &mut Run<'_, D>, name: &[u8]) -> Result<Option<Report>, Refusal>
     ensures goes { (F : Cnf) (cubes : List Cube) (s : Gone) (bytes : List ℕ) → IsAt D.made F cubes s bytes (one_more s.count) run.old.joined.join run.old.joined.part run.old.sheet
         → IfOk result (Goes (λ t. IsAt D.made F cubes t [] t.count run.new.joined.join run.new.joined.part run.new.sheet)
         (ReadsFile F cubes run.old.sheet.options.quiet name.now bytes s) (AnswersBy F cubes run.old.sheet.options.witness bytes s)) }
@@ -248,12 +256,12 @@ fn close<D: Drafts>(run: &mut Run<'_, D>, name: &[u8]) -> Result<Option<Report>,
     ensures refused { IfErr result (IsRefusedAs Refusal.Writing) }
 {
     let ended = end_file(&mut run.joined)?;
-    told(run.joined.disk.alloc(), &mut run.sheet, ended, name)
+    tell_outcome(run.joined.disk.alloc(), &mut run.sheet, ended, name)
 }
 
-/// Abandons a file that cannot be opened, or in which a read failed, and appends the line that says so. If `refusal` is out of memory, that
-/// is the error instead.
-fn skip<D: Drafts>(
+/// Gives up a file that cannot be opened, or in which a read failed, and appends the line that says
+/// so. If `refusal` is out of memory, that is the error instead.
+fn skip_unread<D: Drafts>(
     run: &mut Run<'_, D>,
     refusal: Refusal,
     name: &[u8],
@@ -267,26 +275,26 @@ fn skip<D: Drafts>(
         return Err(Refusal::NoMemory);
     }
     abandon(&mut run.joined)?;
-    note(&mut run.sheet, Note::Unread, name)?;
+    put_file_note(&mut run.sheet, Note::Unread, name)?;
     Ok(None)
 }
 
 /// Joins the file that was opened under this name, and appends its line. Answers the report of the run if the file is an answer that
 /// satisfies the formula.
-fn read<D: Drafts>(
+fn join_opened<D: Drafts>(
     run: &mut Run<'_, D>,
     mut pieces: Pieces<D::Source>,
     name: &[u8],
 ) -> Result<Option<Report>, Refusal>
     ensures goes { (F : Cnf) (cubes : List Cube) (s : Gone) → IsAt D.made F cubes s [] (one_more s.count) run.old.joined.join run.old.joined.part run.old.sheet
         → IfOk result (Goes (λ t. IsAt D.made F cubes t [] t.count run.new.joined.join run.new.joined.part run.new.sheet)
-        (TakesSome F cubes run.old.sheet.options.quiet (D.Source.remaining pieces.source) name.now s) (λ r. Of (D.Source.remaining pieces.source) (λ bytes. AnswersBy F cubes run.old.sheet.options.witness bytes s r))) }
+        (TakesSome F cubes run.old.sheet.options.quiet (D.Source.remaining pieces.source) name.now s) (λ r. HoldsOf (D.Source.remaining pieces.source) (λ bytes. AnswersBy F cubes run.old.sheet.options.witness bytes s r))) }
     ensures same { OnOk result ((run.new.joined.disk ≡ run.old.joined.disk) × (run.new.sheet.options ≡ run.old.sheet.options)) }
     ensures refused { IfErr result (IsRefusedAs Refusal.Writing) }
 {
     match feed_on(&mut pieces, &mut run.joined)? {
-        Fed::Whole => close(run, name),
-        Fed::Unread(refusal) => skip(run, refusal, name),
+        Fed::Whole => end_named_file(run, name),
+        Fed::Unread(refusal) => skip_unread(run, refusal, name),
     }
 }
 
@@ -307,7 +315,10 @@ fn is_own<D: Drafts>(run: &Run<'_, D>, name: &str) -> bool
 
 /// Counts a name, joins its file, and appends its line. Answers the report of the run if the file is an answer that satisfies the formula.
 /// It errs if the name leads to the file of the proof.
-pub(crate) fn take<D: Drafts>(run: &mut Run<'_, D>, name: &str) -> Result<Option<Report>, Refusal>
+pub(crate) fn join_file<D: Drafts>(
+    run: &mut Run<'_, D>,
+    name: &str,
+) -> Result<Option<Report>, Refusal>
     ensures goes { (F : Cnf) (cubes : List Cube) (s : Gone) → IsAt D.made F cubes s [] s.count run.old.joined.join run.old.joined.part run.old.sheet
         → IfOk result (Goes (λ t. IsAt D.made F cubes t [] t.count run.new.joined.join run.new.joined.part run.new.sheet)
         (Takes D.holds D.apart run.old.joined.disk.now run.old.sheet.options F cubes name.now s) (Stops D.holds D.apart run.old.joined.disk.now run.old.sheet.options F cubes name.now s)) }
@@ -319,18 +330,21 @@ pub(crate) fn take<D: Drafts>(run: &mut Run<'_, D>, name: &str) -> Result<Option
         return Err(Refusal::Writing);
     }
     match run.joined.disk.open(name, Refusal::Proof) {
-        Ok(pieces) => read(run, pieces, name.as_bytes()),
-        Err(refusal) => skip(run, refusal, name.as_bytes()),
+        Ok(pieces) => join_opened(run, pieces, name.as_bytes()),
+        Err(refusal) => skip_unread(run, refusal, name.as_bytes()),
     }
 }
 
 /// Counts a name that no file can have, and appends the line that it cannot be read.
-pub(crate) fn pass<D: Drafts>(run: &mut Run<'_, D>, name: &[u8]) -> Result<Option<Report>, Refusal>
+pub(crate) fn skip_name<D: Drafts>(
+    run: &mut Run<'_, D>,
+    name: &[u8],
+) -> Result<Option<Report>, Refusal>
     ensures goes { (F : Cnf) (cubes : List Cube) (s : Gone) → IsAt D.made F cubes s [] s.count run.old.joined.join run.old.joined.part run.old.sheet
         → IfOk result (Goes (λ t. IsAt D.made F cubes t [] t.count run.new.joined.join run.new.joined.part run.new.sheet) (λ t. t ≡ without_file name.now s) (λ r. ⊥)) }
     ensures same { OnOk result ((run.new.joined.disk ≡ run.old.joined.disk) × (run.new.sheet.options ≡ run.old.sheet.options)) }
     ensures refused { IfErr result (IsRefusedAs Refusal.Writing) }
 {
     run.sheet.count = run.sheet.count.saturating_add(1);
-    skip(run, Refusal::Proof, name)
+    skip_unread(run, Refusal::Proof, name)
 }

@@ -2,9 +2,9 @@
 //! the whole formula to which it is lifted.
 
 ghost use Rattle.std.specs.Prelude.{◌≡◌, ◌≢◌, ◌++◌, ◌-◌, ℕ, List, [], IfOk, IfErr, OnErr, OnOk};
-ghost use Rattle.commands.specs.Known.{Of};
+ghost use Rattle.commands.specs.Known.{HoldsOf};
 ghost use Rattle.commands.specs.Lift.{IsApart, LiftsAt, LiftsBlock, LiftsEach, LiftsTree, fault_lines};
-ghost use Rattle.commands.specs.Refusals.{IsRefusedAs, IsUnlifted, IsUnread, IsWanting};
+ghost use Rattle.commands.specs.Refusals.{IsRefusedAs, IsUnreadOrUnwritten, IsOneOf, IsWanting};
 ghost use Rattle.commands.specs.Trees.{OfTree};
 ghost use Rattle.commands.specs.Written.{Keeps};
 ghost use Rattle.commands.specs.inner.Parts.{Begins};
@@ -19,9 +19,10 @@ ghost use Rattle.lrat_check.specs.ProofFaults.{no_memory};
 
 use crate::drafts::{Drafts, Target, Way};
 use crate::filter::{Ending, Filter, run_filter};
-use crate::formula::out_of_memory;
 use crate::formula_tree::{Begun, begin_files};
 use crate::part_file::{Part, part_of};
+use crate::whole_source::out_of_memory;
+use dimacs::Limits;
 use leaves::{BlockLift, LiftOutcome, Split, lift_report};
 use lrat_check::CheckFault;
 use reports::{Refusal, Report};
@@ -108,19 +109,24 @@ impl Filter for LeafLift {
 
     ghost more = { leaf_more };
 
+    /// Gives the next piece of the proof to the lift.
     fn take(&mut self, piece: &[u8]) -> Result<(), Refusal> {
         self.lift.feed(piece);
         Ok(())
     }
 
+    /// Lends the bytes of the log that are not written to its file yet.
     fn waiting(&self) -> &[u8] {
         self.lift.written()
     }
 
+    /// Drops the bytes of the log that were written.
     fn hand_out(&mut self) {
         self.lift.forget();
     }
 
+    /// Ends the proof: the log is kept if the proof has no fault, and else dropped with a report of
+    /// the fault.
     fn end(self, alloc: Global) -> Result<Ending, Refusal> {
         let LeafLift { lift, leaf } = self;
         let is_binary = lift.is_binary();
@@ -137,7 +143,7 @@ impl Filter for LeafLift {
     }
 }
 
-/// Copies the bytes of the log of several leaves that are not yet handed out.
+/// Copies the last bytes of the log of several leaves, which are not written to its file yet.
 fn rest_of(alloc: Global, lift: &BlockLift) -> Result<Vec<u8>, Refusal>
     ensures rest { IfOk result (λ rest. rest.items ≡ lift.now.log.lines.out.items) }
     ensures refused { IfErr result IsWanting }
@@ -148,7 +154,7 @@ fn rest_of(alloc: Global, lift: &BlockLift) -> Result<Vec<u8>, Refusal>
 /// Reports which of the leaves the log closes.
 fn told_all(alloc: Global, lift: &BlockLift) -> Result<Report, Refusal>
     requires { IsEnded lift.now.log }
-    ensures prints { IfOk result (λ r. (F : Cnf) (place : ℕ) (cubes : List Cube) (bytes written : List ℕ) → HasTakenBlock F place cubes bytes written lift.now → PrintsBlock F place cubes bytes (written ++ lift.now.log.lines.out.items) r) }
+    ensures prints { IfOk result (λ r. (F : Cnf) (place : ℕ) (cubes : List Cube) (bytes handed : List ℕ) → HasTakenBlock F place cubes bytes handed lift.now → PrintsBlock F place cubes bytes (handed ++ lift.now.log.lines.out.items) r) }
     ensures refused { IfErr result IsWanting }
 {
     lift.report(alloc).map_err(out_of_memory)
@@ -167,19 +173,24 @@ impl Filter for BlockLift {
 
     ghost more = { each_more };
 
+    /// Gives the next piece of the LIDRUP text to the lift.
     fn take(&mut self, piece: &[u8]) -> Result<(), Refusal> {
         self.feed(piece);
         Ok(())
     }
 
+    /// Lends the bytes of the log that are not written to its file yet.
     fn waiting(&self) -> &[u8] {
         self.written()
     }
 
+    /// Drops the bytes of the log that were written.
     fn hand_out(&mut self) {
         self.forget();
     }
 
+    /// Ends the LIDRUP text: the log is kept if the text has no fault, and else dropped with a
+    /// report of the fault.
     fn end(self, alloc: Global) -> Result<Ending, Refusal> {
         match self.finish() {
             Ok(()) => {
@@ -222,11 +233,11 @@ fn lift_proof<D: Drafts, P: Filter + Drop>(
     files: &LiftFiles<'_>,
     taker: P,
 ) -> Result<Report, Refusal>
-    ensures poured { IfOk result (λ r. Of (D.holds disk.old files.now.proof.now)
+    ensures poured { IfOk result (λ r. HoldsOf (D.holds disk.old files.now.proof.now)
         (λ bytes. IsFiltered P.moved P.ended D.kept disk.old disk.new files.now.log.binary files.now.log.path.now taker bytes r)) }
     ensures apart { OnOk result (IsApart D.apart disk.old files.now) }
     ensures left { OnErr result (disk.new ≡ disk.old) }
-    ensures refused { IfErr result (IsUnread Refusal.Proof Refusal.Writing) }
+    ensures refused { IfErr result (IsOneOf Refusal.Proof Refusal.Writing) }
 {
     let pieces = disk.open(files.proof, Refusal::Proof)?;
     let part = begin_log(disk, files)?;
@@ -271,11 +282,11 @@ fn lift_leaf<D: Drafts>(
     split: Split,
     leaf: u64,
 ) -> Result<Report, Refusal>
-    ensures lifts { IfOk result (λ r. Of (D.holds disk.old files.now.proof.now)
+    ensures lifts { IfOk result (λ r. HoldsOf (D.holds disk.old files.now.proof.now)
         (λ proof. LiftsAt (Keeps D.kept disk.old disk.new files.now.log.binary files.now.log.path.now) (disk.new ≡ disk.old) split.formula (leaf_at split.tree leaf) leaf proof r)) }
     ensures apart { IfOk result (λ r. r.status ≢ 1 → IsApart D.apart disk.old files.now) }
     ensures left { OnErr result (disk.new ≡ disk.old) }
-    ensures refused { IfErr result (IsUnread Refusal.Proof Refusal.Writing) }
+    ensures refused { IfErr result (IsOneOf Refusal.Proof Refusal.Writing) }
 {
     let begun = begin_leaf(disk.alloc(), split, leaf)?;
     match begun {
@@ -290,22 +301,22 @@ fn lift_text<D: Drafts>(
     files: &LiftFiles<'_>,
     lift: BlockLift,
 ) -> Result<Report, Refusal>
-    ensures lifts { (F : Cnf) (place : ℕ) (cubes : List Cube) → HasTakenBlock F place cubes [] [] lift → IfOk result (λ r. Of (D.holds disk.old files.now.proof.now)
+    ensures lifts { (F : Cnf) (place : ℕ) (cubes : List Cube) → HasTakenBlock F place cubes [] [] lift → IfOk result (λ r. HoldsOf (D.holds disk.old files.now.proof.now)
         (λ text. LiftsEach (Keeps D.kept disk.old disk.new files.now.log.binary files.now.log.path.now) (disk.new ≡ disk.old) F place cubes text r)) }
     ensures apart { OnOk result (IsApart D.apart disk.old files.now) }
     ensures left { OnErr result (disk.new ≡ disk.old) }
-    ensures refused { IfErr result (IsUnread Refusal.Proof Refusal.Writing) }
+    ensures refused { IfErr result (IsOneOf Refusal.Proof Refusal.Writing) }
 {
     lift_proof(disk, files, lift)
 }
 
 /// Lifts a LIDRUP text for all leaves of a tree, and writes its log. Answers the report.
 fn lift_all<D: Drafts>(disk: &mut D, files: &LiftFiles<'_>, split: Split) -> Result<Report, Refusal>
-    ensures lifts { IfOk result (λ r. Of (D.holds disk.old files.now.proof.now)
+    ensures lifts { IfOk result (λ r. HoldsOf (D.holds disk.old files.now.proof.now)
         (λ text. LiftsEach (Keeps D.kept disk.old disk.new files.now.log.binary files.now.log.path.now) (disk.new ≡ disk.old) split.formula 0 split.tree text r)) }
     ensures apart { OnOk result (IsApart D.apart disk.old files.now) }
     ensures left { OnErr result (disk.new ≡ disk.old) }
-    ensures refused { IfErr result (IsUnread Refusal.Proof Refusal.Writing) }
+    ensures refused { IfErr result (IsOneOf Refusal.Proof Refusal.Writing) }
 {
     let lift = begin_all(disk.alloc(), split)?;
     lift_text(disk, files, lift)
@@ -320,11 +331,11 @@ fn lift_block<D: Drafts>(
     first: u64,
     last: u64,
 ) -> Result<Report, Refusal>
-    ensures lifts { IfOk result (λ r. Of (D.holds disk.old files.now.proof.now)
+    ensures lifts { IfOk result (λ r. HoldsOf (D.holds disk.old files.now.proof.now)
         (λ text. LiftsBlock (Keeps D.kept disk.old disk.new files.now.log.binary files.now.log.path.now) (disk.new ≡ disk.old) split.formula (first - 1) (block_of split.tree first last) text r)) }
     ensures apart { IfOk result (λ r. r.status ≢ 1 → IsApart D.apart disk.old files.now) }
     ensures left { OnErr result (disk.new ≡ disk.old) }
-    ensures refused { IfErr result (IsUnread Refusal.Proof Refusal.Writing) }
+    ensures refused { IfErr result (IsOneOf Refusal.Proof Refusal.Writing) }
 {
     let begun = begin_block(disk.alloc(), split, first, last)?;
     match begun {
@@ -340,12 +351,12 @@ fn lift_tree<D: Drafts>(
     split: Split,
     lifted: Lifted,
 ) -> Result<Report, Refusal>
-    ensures lifts { IfOk result (λ r. Of (D.holds disk.old files.now.proof.now)
+    ensures lifts { IfOk result (λ r. HoldsOf (D.holds disk.old files.now.proof.now)
         (λ proof. LiftsTree (Keeps D.kept disk.old disk.new files.now.log.binary files.now.log.path.now) (disk.new ≡ disk.old) split.formula split.tree lifted proof r)) }
     ensures dropped { IfOk result (λ r. r.status ≡ 1 → disk.new ≡ disk.old) }
     ensures apart { IfOk result (λ r. r.status ≢ 1 → IsApart D.apart disk.old files.now) }
     ensures left { OnErr result (disk.new ≡ disk.old) }
-    ensures refused { IfErr result (IsUnread Refusal.Proof Refusal.Writing) }
+    ensures refused { IfErr result (IsOneOf Refusal.Proof Refusal.Writing) }
 {
     match lifted {
         Lifted::Leaf(leaf) => lift_leaf(disk, files, split, leaf),
@@ -355,20 +366,22 @@ fn lift_tree<D: Drafts>(
 }
 
 /// Lifts the proof in `files.proof`, for the leaves that `lifted` names of the tree in `files.cubes`, to a log over the formula in
-/// `files.input`. Answers the report. The log is written to `files.log`, whole or not at all, and never over a file that is read.
+/// `files.input`. Answers the report. The log is written to `files.log`, whole or not at all, and never over a file that is read. The
+/// formula and the cubes are read within these limits.
 pub fn lift_files<D: Drafts>(
     disk: &mut D,
+    limits: Limits,
     files: &LiftFiles<'_>,
     lifted: Lifted,
 ) -> Result<Report, Refusal>
-    ensures lifts { IfOk result (λ r. Of (D.holds disk.old files.now.input.now) (λ text. Of (D.holds disk.old files.now.cubes.now) (λ lines. OfTree text lines (λ F tree. Of (D.holds disk.old files.now.proof.now)
+    ensures lifts { IfOk result (λ r. HoldsOf (D.holds disk.old files.now.input.now) (λ text. HoldsOf (D.holds disk.old files.now.cubes.now) (λ lines. OfTree limits text lines (λ F tree. HoldsOf (D.holds disk.old files.now.proof.now)
         (λ proof. LiftsTree (Keeps D.kept disk.old disk.new files.now.log.binary files.now.log.path.now) (disk.new ≡ disk.old) F tree lifted proof r)) r))) }
     ensures dropped { IfOk result (λ r. r.status ≡ 1 → disk.new ≡ disk.old) }
     ensures apart { IfOk result (λ r. r.status ≢ 1 → IsApart D.apart disk.old files.now) }
     ensures left { OnErr result (disk.new ≡ disk.old) }
-    ensures refused { IfErr result IsUnlifted }
+    ensures refused { IfErr result IsUnreadOrUnwritten }
 {
-    let begun = begin_files(disk, files.input, files.cubes)?;
+    let begun = begin_files(disk, limits, files.input, files.cubes)?;
     match begun {
         Begun::With(split) => lift_tree(disk, files, split, lifted),
         Begun::Refused(report) => Ok(report),

@@ -15,7 +15,7 @@ pub trait Outputs {
     // the bytes that were last handed to the proof were not all written
     ghost unwritten: { Self → Type 0 } = { λ _. Unit {0} };
 
-    /// Appends bytes to the proof. An error says that not all of them were written.
+    /// Appends bytes to the proof's file. An error says that not all of them were written.
     fn prove(&mut self, bytes: &[u8]) -> Result<(), Refusal>
         ensures proved { OnOk result ((proof : List ℕ) (moments : List Moment) → has self.old proof moments → has self.new (proof ++ bytes.now) moments) }
         ensures some { OnErr result ((proof : List ℕ) (moments : List Moment) → has self.old proof moments → (written : List ℕ) × has self.new (proof ++ written) moments) }

@@ -1,24 +1,26 @@
 //! `receipt`: checks a log while its file is read, and writes a small file, the receipt, that tells which leaves the log closes.
 
 ghost use Rattle.std.specs.Prelude.{◌≡◌, ◌≢◌, ℕ, List, [], false, IfOk, IfErr, OnErr, OnOk};
-ghost use Rattle.commands.specs.Known.{Of};
+ghost use Rattle.commands.specs.Known.{HoldsOf};
 ghost use Rattle.commands.specs.Receipts.{IsApart, TellsReceipt, log_fault_text};
-ghost use Rattle.commands.specs.Refusals.{IsRefusedAs, IsUnlifted, IsUnread, IsWanting};
+ghost use Rattle.commands.specs.Refusals.{IsRefusedAs, IsUnreadOrUnwritten, IsOneOf, IsWanting};
 ghost use Rattle.commands.specs.Trees.{OfTree};
 ghost use Rattle.commands.specs.inner.Feed.{Extends};
 ghost use Rattle.commands.specs.inner.Receipts.{ComesTo, SaysFault};
 ghost use Rattle.dimacs.specs.logic.Cnf.{Cnf};
+ghost use Rattle.dimacs.specs.logic.Limits.{written};
 ghost use Rattle.icnf.specs.Leaves.{Cube};
 ghost use Rattle.leaves.specs.Leaf.{Prints};
 ghost use Rattle.receipts.specs.Receipts.{receipt_text};
 ghost use Rattle.receipts.specs.LogReceipt.{HasReadLog, IsReceiptOf};
 ghost use Rattle.receipts.specs.Contents.{contents_of};
 
-use crate::closed_leaves::closed_report;
+use crate::closed_leaves::{MOST, closed_report};
 use crate::drafts::{Drafts, Way};
 use crate::feed_loop::{Feeds, feed_all};
-use crate::formula::out_of_memory;
 use crate::formula_tree::{Begun, begin_files};
+use crate::whole_source::out_of_memory;
+use dimacs::Limits;
 use leaves::Split;
 use lrat_check::CheckFault;
 use receipts::{BuildFault, Receipt, ReceiptBuilder, write};
@@ -56,23 +58,28 @@ impl Feeds for ReceiptBuilder {
 
     ghost more = { λ a b c xs ys h k F cubes. extends_more (HasReadLog F cubes) a b c xs ys (h F cubes) (k F cubes) };
 
+    /// Gives the next piece of the log's file to the builder of its receipt.
     fn feed(&mut self, piece: &[u8]) -> Result<(), Refusal> {
         ReceiptBuilder::feed(self, piece);
         Ok(())
     }
 
+    /// Whether the log has a fault, so that the rest of its file changes nothing.
     fn is_settled(&self) -> bool {
         ReceiptBuilder::is_settled(self)
     }
 }
 
-/// A check of a log, over a formula and the tree of its cubes, that has taken no byte.
+/// A builder of a receipt that has taken no byte of the log. It errs if memory runs out, or if the
+/// formula has more than `MOST` variables, which no reader of these commands lets pass.
 fn opened(alloc: Global, split: &Split) -> Result<ReceiptBuilder, Refusal>
     ensures reads { IfOk result (HasReadLog split.now.formula split.now.tree []) }
     ensures refused { IfErr result IsWanting }
 {
     let formula = split.formula();
-    let _ = formula.vars(); // with it comes that they are 2,000,000 at most
+    if formula.vars() > MOST {
+        return Err(Refusal::NoMemory);
+    }
     ReceiptBuilder::of(alloc, formula, split.tree()).map_err(out_of_memory)
 }
 
@@ -89,7 +96,7 @@ fn text_of(alloc: Global, receipt: &Receipt) -> Result<Vec<u8>, Refusal>
 }
 
 /// Answers the text of a receipt, and the report of the leaves that it closes. It errs if memory runs out.
-fn told(alloc: Global, split: &Split, receipt: &Receipt) -> Result<Received, Refusal>
+fn receipt_and_report(alloc: Global, split: &Split, receipt: &Receipt) -> Result<Received, Refusal>
     ensures tells { IfOk result (λ x. (log : List ℕ) → IsReceiptOf split.now.formula split.now.tree log (contents_of receipt.now) → ComesTo split.now.formula split.now.tree log x) }
     ensures refused { IfErr result IsWanting }
 {
@@ -108,7 +115,7 @@ fn faulty(alloc: Global, fault: CheckFault) -> Result<Report, AllocError>
 }
 
 /// Reports, with status 1, why a log has no receipt: its first fault, or that it closes nothing. Out of memory is an error instead.
-fn unreceived(alloc: Global, fault: BuildFault) -> Result<Report, Refusal>
+fn refused_report(alloc: Global, fault: BuildFault) -> Result<Report, Refusal>
     ensures says { IfOk result (SaysFault fault) }
     ensures refused { IfErr result IsWanting }
 {
@@ -127,9 +134,9 @@ fn finished(alloc: Global, split: &Split, receiving: ReceiptBuilder) -> Result<R
     ensures refused { IfErr result IsWanting }
 {
     match receiving.finish() {
-        Ok(receipt) => told(alloc, split, &receipt),
+        Ok(receipt) => receipt_and_report(alloc, split, &receipt),
         Err(fault) => {
-            let report = unreceived(alloc, fault)?;
+            let report = refused_report(alloc, fault)?;
             Ok(Received::Refused(report))
         }
     }
@@ -138,7 +145,7 @@ fn finished(alloc: Global, split: &Split, receiving: ReceiptBuilder) -> Result<R
 /// Checks the log in the file `log`, and answers its receipt, or why it has none. A regular file is read to its end even after a fault, a
 /// pipe up to the first fault. It errs if the log cannot be read or memory runs out.
 fn read_log<D: Drafts>(disk: &D, log: &str, split: &Split) -> Result<Received, Refusal>
-    ensures comes { IfOk result (λ x. Of (D.holds disk.now log.now) (λ bytes. ComesTo split.now.formula split.now.tree bytes x)) }
+    ensures comes { IfOk result (λ x. HoldsOf (D.holds disk.now log.now) (λ bytes. ComesTo split.now.formula split.now.tree bytes x)) }
     ensures refused { IfErr result (IsRefusedAs Refusal.Proof) }
 {
     let mut receiving = opened(disk.alloc(), split)?;
@@ -169,7 +176,7 @@ fn keep_text<D: Drafts>(disk: &mut D, path: &str, text: &[u8]) -> Result<(), Ref
 }
 
 /// Writes the receipt of a log, if it has one, to the path, and answers the report.
-fn settle<D: Drafts>(disk: &mut D, path: &str, received: Received) -> Result<Report, Refusal>
+fn write_receipt<D: Drafts>(disk: &mut D, path: &str, received: Received) -> Result<Report, Refusal>
     ensures tells { (F : Cnf) (cubes : List Cube) (log : List ℕ) → ComesTo F cubes log received
         → IfOk result (TellsReceipt (D.kept disk.old disk.new path.now) (disk.new ≡ disk.old) F cubes log) }
     ensures left { OnErr result (disk.new ≡ disk.old) }
@@ -200,30 +207,30 @@ fn receipt_tree<D: Drafts>(
     files: &ReceiptFiles<'_>,
     split: &Split,
 ) -> Result<Report, Refusal>
-    ensures tells { IfOk result (λ r. Of (D.holds disk.old files.now.log.now)
+    ensures tells { IfOk result (λ r. HoldsOf (D.holds disk.old files.now.log.now)
         (λ log. TellsReceipt (D.kept disk.old disk.new files.now.receipt.now) (disk.new ≡ disk.old) split.now.formula split.now.tree log r)) }
     ensures apart { OnOk result (IsApart D.apart disk.old files.now) }
     ensures left { OnErr result (disk.new ≡ disk.old) }
-    ensures refused { IfErr result (IsUnread Refusal.Proof Refusal.Writing) }
+    ensures refused { IfErr result (IsOneOf Refusal.Proof Refusal.Writing) }
 {
     if is_read(disk, files) {
         return Err(Refusal::Writing);
     }
     let received = read_log(disk, files.log, split)?;
-    settle(disk, files.receipt, received)
+    write_receipt(disk, files.receipt, received)
 }
 
 /// Checks the log in `files.log` over the formula in `files.input`, and writes to `files.receipt` which leaves of the tree in `files.cubes`
 /// the log closes. Answers the report. The receipt is written whole or not at all, and never over a file that is read.
 pub fn receipt_files<D: Drafts>(disk: &mut D, files: &ReceiptFiles<'_>) -> Result<Report, Refusal>
-    ensures tells { IfOk result (λ r. Of (D.holds disk.old files.now.input.now) (λ text. Of (D.holds disk.old files.now.cubes.now) (λ lines. OfTree text lines (λ F tree. Of (D.holds disk.old files.now.log.now)
+    ensures tells { IfOk result (λ r. HoldsOf (D.holds disk.old files.now.input.now) (λ text. HoldsOf (D.holds disk.old files.now.cubes.now) (λ lines. OfTree written text lines (λ F tree. HoldsOf (D.holds disk.old files.now.log.now)
         (λ log. TellsReceipt (D.kept disk.old disk.new files.now.receipt.now) (disk.new ≡ disk.old) F tree log r)) r))) }
     ensures dropped { IfOk result (λ r. r.status ≡ 1 → disk.new ≡ disk.old) }
     ensures apart { IfOk result (λ r. r.status ≢ 1 → IsApart D.apart disk.old files.now) }
     ensures left { OnErr result (disk.new ≡ disk.old) }
-    ensures refused { IfErr result IsUnlifted }
+    ensures refused { IfErr result IsUnreadOrUnwritten }
 {
-    let begun = begin_files(disk, files.input, files.cubes)?;
+    let begun = begin_files(disk, Limits::written(), files.input, files.cubes)?;
     match begun {
         Begun::With(split) => receipt_tree(disk, files, &split),
         Begun::Refused(report) => Ok(report),

@@ -2,11 +2,11 @@
 
 ghost use Rattle.std.specs.Prelude.{◌≡◌, ◌++◌, ◌∷◌, ℕ, List, map, codes, IfOk, IfErr, OnOk};
 ghost use Rattle.commands.specs.Names.{OfNames, lists, names_behind, names_of};
-ghost use Rattle.commands.specs.Known.{Of};
+ghost use Rattle.commands.specs.Known.{HoldsOf};
 ghost use Rattle.commands.specs.Refusals.{IsRefusedAs};
 
 use crate::disk::Disk;
-use crate::formula::{out_of_memory, read_bytes};
+use crate::whole_source::{out_of_memory, read_bytes};
 use reports::Refusal;
 use std::alloc::{AllocError, Global};
 use std::mem;
@@ -59,7 +59,7 @@ fn names_given(alloc: Global, given: &[&str]) -> Result<Vec<Vec<u8>>, AllocError
 
 /// Reads standard input to its end, and answers the names that it lists. It errs if it cannot be read or memory runs out.
 fn names_listed<D: Disk>(disk: &D) -> Result<Vec<Vec<u8>>, Refusal>
-    ensures names { IfOk result (λ names. Of (D.holds disk.now (codes "-")) (λ list. map (λ n. n.items) names.items ≡ names_of list)) }
+    ensures names { IfOk result (λ names. HoldsOf (D.holds disk.now (codes "-")) (λ list. map (λ n. n.items) names.items ≡ names_of list)) }
     ensures refused { IfErr result (IsRefusedAs Refusal.Proof) }
 {
     let mut pieces = disk.open("-", Refusal::Proof)?;

@@ -70,7 +70,8 @@ fn put_failed(out: &mut Vec<u8>, core: &[Lit], witness: bool) -> Result<(), Allo
     Ok(())
 }
 
-/// Copies the values of the variables from 1 to `vars`; if the assignment has fewer variables, all of its values.
+/// Copies the values of the variables from 1 to `vars`, those that the session's events name: the
+/// search may have more variables. If the assignment has fewer, all of its values.
 fn front_of(out: &Vec<u8>, values: &Assignment, vars: u32) -> Result<Assignment, AllocError>
     ensures { IfOk result (λ front. front ≡ take vars values.now) }
 {

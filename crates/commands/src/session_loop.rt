@@ -1,21 +1,22 @@
 //! `session`: reads events line by line, answers each query, and writes the proof before each answer.
 
 ghost use Rattle.std.specs.Prelude.{◌≡◌, ◌<◌, ◌≤◌, ◌++◌, ℕ, List, [], Option, IfOk, IfErr, OnErr, OnOk};
-ghost use Rattle.commands.specs.Known.{Of};
-ghost use Rattle.commands.specs.Refusals.{IsRefusedAs, IsUnread, IsWanting};
+ghost use Rattle.commands.specs.Known.{HoldsOf};
+ghost use Rattle.commands.specs.Refusals.{IsRefusedAs, IsOneOf, IsWanting};
 ghost use Rattle.commands.specs.SessionMoments.{Ends, EndsAs, IsLeft, Moment};
-ghost use Rattle.commands.specs.inner.SessionLoop.{CanRun, EndsSo, HasWritten, IsLeftOf, IsPaused, IsRunning, Waits};
+ghost use Rattle.commands.specs.inner.SessionLoop.{CanRun, EndsSo, HasWritten, IsLeftOf, GoesOnOrIsUnheard, IsRunning, Waits};
 ghost use Rattle.commands.specs.inner.EventSource.{IsWaiting};
 ghost use Rattle.incremental.specs.SessionHistory.{IsSessionReady, vars_in};
 ghost use Rattle.icnf.specs.declared.fault.IcnfFault.{IcnfFault};
 ghost use Rattle.leaves.specs.Leaf.{Prints};
-ghost use Rattle.sessions.specs.Heard.{heard};
+ghost use Rattle.sessions.specs.Heard.{heard_within};
 ghost use Rattle.sessions.specs.Rows.{event_of};
 
 use crate::event_source::{EventSource, Next};
-use crate::formula::out_of_memory;
 use crate::outputs::Outputs;
 use crate::session_lines::{put_answer, status_of};
+use crate::whole_source::out_of_memory;
+use dimacs::Limits;
 use icnf::IcnfFault;
 use incremental::Session;
 use reports::{Refusal, Report};
@@ -24,15 +25,14 @@ use std::alloc::Global;
 use std::io::BufRead;
 use watches::{Propagator, Watched};
 
-/// How many variables a session has at first.
+/// How many variables a session has at first, if it may have so many.
 const FIRST: u32 = 64;
-
-/// The most variables that a session can have.
-const MOST: u32 = 1_000_000;
 
 /// How queries are asked, and what is printed of their answers.
 #[derive(Clone, Copy)]
 pub struct Asking {
+    /// The limits on the events.
+    pub limits: Limits,
     /// The most lemmas that are learnt for one query.
     pub limit: u64,
     /// Whether `v` and `f` lines are printed.
@@ -82,8 +82,8 @@ enum Ended {
     Unheard,
 }
 
-/// Appends to the proof the bytes that the session has produced since the last call. It errs if they cannot all be written or memory runs
-/// out.
+/// Appends to the proof's file the bytes that the session has produced since the last call. It errs
+/// if they cannot all be written or memory runs out.
 fn hand_out<P: Propagator, O: Outputs>(
     session: &mut Session<'_, P>,
     outputs: &mut O,
@@ -116,7 +116,7 @@ impl<B: BufRead + Drop> Run<B> {
         ensures same { self.new.events ≡ self.old.events }
         ensures asking { self.new.asking ≡ self.old.asking }
         ensures goes { (all : Option (List ℕ)) → IsRunning all B.remaining (O.has outputs.old) (event_of Sent.Query self.old.events.lines.read.literals) self.old session.old
-            → IfOk result (λ b. IsPaused all B.remaining (O.has outputs.new) (O.unheard outputs.new) b self.new session.new) }
+            → IfOk result (λ b. GoesOnOrIsUnheard all B.remaining (O.has outputs.new) (O.unheard outputs.new) b self.new session.new) }
         ensures left { (all : Option (List ℕ)) → IsRunning all B.remaining (O.has outputs.old) (event_of Sent.Query self.old.events.lines.read.literals) self.old session.old
             → OnErr result (IsLeftOf all (O.has outputs.new) self.old.asking) }
         ensures refused { IfErr result (IsRefusedAs Refusal.Writing) }
@@ -138,7 +138,7 @@ impl<B: BufRead + Drop> Run<B> {
     }
 
     /// Takes the last line, which is of the kind `sent`: adds its clause, or answers its query. False if not all of an answer was printed.
-    fn take<P: Propagator, O: Outputs>(
+    fn take_sent<P: Propagator, O: Outputs>(
         &mut self,
         session: &mut Session<'_, P>,
         outputs: &mut O,
@@ -152,7 +152,7 @@ impl<B: BufRead + Drop> Run<B> {
         ensures same { self.new.events ≡ self.old.events }
         ensures asking { self.new.asking ≡ self.old.asking }
         ensures goes { (all : Option (List ℕ)) → IsRunning all B.remaining (O.has outputs.old) (event_of sent self.old.events.lines.read.literals) self.old session.old
-            → IfOk result (λ b. IsPaused all B.remaining (O.has outputs.new) (O.unheard outputs.new) b self.new session.new) }
+            → IfOk result (λ b. GoesOnOrIsUnheard all B.remaining (O.has outputs.new) (O.unheard outputs.new) b self.new session.new) }
         ensures left { (all : Option (List ℕ)) → IsRunning all B.remaining (O.has outputs.old) (event_of sent self.old.events.lines.read.literals) self.old session.old
             → OnErr result (IsLeftOf all (O.has outputs.new) self.old.asking) }
         ensures refused { IfErr result (IsRefusedAs Refusal.Writing) }
@@ -188,7 +188,7 @@ impl<B: BufRead + Drop> Run<B> {
             → IfOk result (λ pause. CanRun all B.remaining (O.has outputs.new) (O.unheard outputs.new) pause self.new session.new) }
         ensures left { (all : Option (List ℕ)) → IsRunning all B.remaining (O.has outputs.old) (event_of first self.old.events.lines.read.literals) self.old session.old
             → OnErr result (IsLeftOf all (O.has outputs.new) self.old.asking) }
-        ensures refused { IfErr result (IsUnread Refusal.Input Refusal.Writing) }
+        ensures refused { IfErr result (IsOneOf Refusal.Input Refusal.Writing) }
         ensures unwritten { IfErr result (λ f. f ≡ Refusal.Writing → O.unwritten outputs.new) }
     {
         let mut sent = first;
@@ -196,7 +196,7 @@ impl<B: BufRead + Drop> Run<B> {
             if self.events.greatest() > vars {
                 return Ok(Pause::Outgrown(sent));
             }
-            if !self.take(session, outputs, sent)? {
+            if !self.take_sent(session, outputs, sent)? {
                 return Ok(Pause::Unheard);
             }
             match self.events.next()? {
@@ -208,8 +208,9 @@ impl<B: BufRead + Drop> Run<B> {
         Err(Refusal::Input)
     }
 
-    /// Takes the last line, which is of the kind `first`, and those after it to the end of the events, by sessions over more and more
-    /// variables; the present one has `vars`. A session of more variables is run by a call within the call for the one before it.
+    /// Takes the last line, of the kind `first`, and those after it to the end of the events. At an
+    /// event of a greater variable than the session has, `vars`, a session of more variables takes
+    /// over, in a call within this one, since a session borrows its propagator.
     fn go_on<O: Outputs>(
         &mut self,
         alloc: Global,
@@ -220,14 +221,14 @@ impl<B: BufRead + Drop> Run<B> {
     ) -> Result<Ended, Refusal>
         requires fit { IsSessionReady ⟦<Watched as Propagator>⟧.is_ready ⟦<Watched as Propagator>⟧.attached session }
         requires vars { vars_in session ≡ vars }
-        requires limit { vars ≤ 1000000 }
+        requires limit { vars ≤ self.old.events.lines.progress.limits.vars }
         requires waits { IsWaiting first self.old.events.greatest self.old.events.lines.read.literals }
         ensures asking { self.new.asking ≡ self.old.asking }
         ensures goes { (all : Option (List ℕ)) → IsRunning all B.remaining (O.has outputs.old) (event_of first self.old.events.lines.read.literals) self.old session.entry
             → IfOk result (EndsSo all (O.has outputs.new) (O.unheard outputs.new) self.old.asking self.new.status) }
         ensures left { (all : Option (List ℕ)) → IsRunning all B.remaining (O.has outputs.old) (event_of first self.old.events.lines.read.literals) self.old session.entry
             → OnErr result (IsLeftOf all (O.has outputs.new) self.old.asking) }
-        ensures refused { IfErr result (IsUnread Refusal.Input Refusal.Writing) }
+        ensures refused { IfErr result (IsOneOf Refusal.Input Refusal.Writing) }
         ensures unwritten { IfErr result (λ f. f ≡ Refusal.Writing → O.unwritten outputs.new) }
     {
         match self.take_lines(&mut session, outputs, vars, first)? {
@@ -237,7 +238,8 @@ impl<B: BufRead + Drop> Run<B> {
             }
             Pause::Unheard => Ok(Ended::Unheard),
             Pause::Outgrown(sent) => {
-                let more = grown_to(vars, self.events.greatest());
+                let limit = self.events.most();
+                let more = grown_to(vars, self.events.greatest(), limit);
                 let mut watched = Watched::new(alloc);
                 match session.grown(&mut watched, more) {
                     Ok(grown) => self.go_on(alloc, grown, outputs, more, sent),
@@ -248,14 +250,22 @@ impl<B: BufRead + Drop> Run<B> {
     }
 }
 
-/// Answers how many variables the next session has: twice as many as the present one, but at least `needed` and at most 1,000,000.
-fn grown_to(vars: u32, needed: u32) -> u32
-    requires below { vars < needed }
-    requires limit { needed ≤ 1000000 }
-    ensures enough { needed ≤ result }
-    ensures limit { result ≤ 1000000 }
+/// Answers how many variables a session has at first: 64, but at most `most`.
+fn first_of(most: u32) -> u32
+    ensures { result ≤ most }
 {
-    (2 * vars).max(needed).min(MOST)
+    FIRST.min(most)
+}
+
+/// Answers how many variables the next session has: twice as many as the present one, but at least `needed` and at most `most`.
+fn grown_to(vars: u32, needed: u32, most: u32) -> u32
+    requires below { vars < needed }
+    requires limit { needed ≤ most }
+    requires few { most ≤ 99999999 }
+    ensures enough { needed ≤ result }
+    ensures limit { result ≤ most }
+{
+    (2 * vars).max(needed).min(most)
 }
 
 /// Reports what is printed after the answers: the fault of the events, with status 1, or nothing, with `status`. If an answer could not be
@@ -272,32 +282,35 @@ fn report_of(alloc: Global, ended: Ended, status: u8) -> Result<Report, Refusal>
     }
 }
 
-/// Answers the queries of a session while its events come. Each line is taken before more is read. For a query the proof is written up to
-/// its answer, and then the answer is printed. The report has what is to be printed after the answers: nothing, or the first fault of the
-/// events. If an answer could not be printed, because nobody reads it, the status is 1. It errs if memory runs out, the source cannot be
-/// read or the proof not be written.
+/// Answers the queries of a session while its events come, within the limits of `asking`. Each line is taken before more is read. For a
+/// query the proof is written up to its answer, and then the answer is printed. The report has what is to be printed after the answers:
+/// nothing, or the first fault of the events. If an answer could not be printed, because nobody reads it, the status is 1. It errs if
+/// memory runs out, the source cannot be read or the proof not be written.
 pub fn answer_session<B: BufRead + Drop, O: Outputs>(
     alloc: Global,
     source: B,
     outputs: &mut O,
     asking: Asking,
 ) -> Result<Report, Refusal>
-    ensures session { O.has outputs.old [] [] → IfOk result (λ r. Of (B.remaining source) (λ text. Ends (O.has outputs.new) (O.unheard outputs.new) asking (heard text) r)) }
-    ensures left { O.has outputs.old [] [] → OnErr result (Of (B.remaining source) (λ text. IsLeft (O.has outputs.new) asking (heard text))) }
-    ensures refused { IfErr result (IsUnread Refusal.Input Refusal.Writing) }
+    ensures session { O.has outputs.old [] [] → IfOk result (λ r. HoldsOf (B.remaining source) (λ text. Ends (O.has outputs.new) (O.unheard outputs.new) asking (heard_within asking.limits text) r)) }
+    ensures left { O.has outputs.old [] [] → OnErr result (HoldsOf (B.remaining source) (λ text. IsLeft (O.has outputs.new) asking (heard_within asking.limits text))) }
+    ensures refused { IfErr result (IsOneOf Refusal.Input Refusal.Writing) }
     ensures unwritten { IfErr result (λ f. f ≡ Refusal.Writing → O.unwritten outputs.new) }
 {
+    let limits = asking.limits;
+    let first = first_of(limits.vars());
+    let events = EventSource::of(alloc, limits, source);
     let mut run = Run {
         asking,
-        events: EventSource::of(alloc, source),
+        events,
         status: 0,
         text: Vec::new(alloc),
     };
     let mut watched = Watched::new(alloc);
-    let session = match Session::new(alloc, &mut watched, FIRST) {
+    let session = match Session::new(alloc, &mut watched, first) {
         Ok(session) => session,
         Err(error) => return Err(out_of_memory(error)),
     };
-    let ended = run.go_on(alloc, session, outputs, FIRST, Sent::Nothing)?;
+    let ended = run.go_on(alloc, session, outputs, first, Sent::Nothing)?;
     report_of(alloc, ended, run.status)
 }

@@ -1,13 +1,13 @@
 //! Reads a small file whole, up to a limit.
 
 ghost use Rattle.std.specs.Prelude.{◌≡◌, ℕ, List, IfOk, IfErr};
-ghost use Rattle.commands.specs.Known.{Of};
+ghost use Rattle.commands.specs.Known.{HoldsOf};
 ghost use Rattle.commands.specs.Refusals.{IsRefusedAs, IsWanting};
 ghost use Rattle.commands.specs.inner.Cover.{IsSmall, IsText, IsTextOf};
 
 use crate::disk::Disk;
 use crate::feed_loop::{Feeds, feed_all};
-use crate::formula::out_of_memory;
+use crate::whole_source::out_of_memory;
 use reports::Refusal;
 
 /// The most bytes of a small file: 64 MiB.
@@ -32,6 +32,8 @@ impl Feeds for Small {
 
     ghost more = { extends_more (λ bytes s. IsSmall bytes s.items.items s.is_long) };
 
+    /// Appends a piece of the file, unless the file is longer than `MOST` bytes; then what was read
+    /// is dropped.
     fn feed(&mut self, piece: &[u8]) -> Result<(), Refusal> {
         if self.is_long {
             return Ok(());
@@ -44,6 +46,7 @@ impl Feeds for Small {
         self.items.extend_from_slice(piece).map_err(out_of_memory)
     }
 
+    /// Whether the file is too long, so that the rest of it is not needed.
     fn is_settled(&self) -> bool {
         self.is_long
     }
@@ -84,8 +87,8 @@ fn unread(refusal: Refusal) -> Result<SmallText, Refusal>
 
 /// Reads the file at a path to its end, or until it is too long: answers its bytes, or that it is too long. It errs if it cannot be read or
 /// memory runs out.
-fn whole<D: Disk>(disk: &D, path: &str) -> Result<SmallText, Refusal>
-    ensures reads { IfOk result (λ text. Of (D.holds disk.now path.now) (λ bytes. IsTextOf bytes text)) }
+fn read_whole<D: Disk>(disk: &D, path: &str) -> Result<SmallText, Refusal>
+    ensures reads { IfOk result (λ text. HoldsOf (D.holds disk.now path.now) (λ bytes. IsTextOf bytes text)) }
     ensures refused { IfErr result (IsRefusedAs Refusal.Proof) }
 {
     let mut small = Small {
@@ -102,7 +105,7 @@ pub(crate) fn read_small<D: Disk>(disk: &D, path: &str) -> Result<SmallText, Ref
     ensures reads { IfOk result (IsText (D.holds disk.now path.now)) }
     ensures refused { IfErr result IsWanting }
 {
-    match whole(disk, path) {
+    match read_whole(disk, path) {
         Ok(text) => Ok(text),
         Err(refusal) => unread(refusal),
     }

@@ -1,8 +1,8 @@
 //! `trim`: reads a formula, checks a proof of it while the proof is read, and writes the proof without the lines that it does not need.
 
 ghost use Rattle.std.specs.Prelude.{◌≡◌, ◌≢◌, ◌++◌, ℕ, List, [], Err, IfOk, IfErr, IsSome, OnErr, OnOk, is_ok, if◌then◌else◌};
-ghost use Rattle.commands.specs.Known.{Of};
-ghost use Rattle.commands.specs.Refusals.{IsRefusedAs, IsUnread, IsUntrimmed, IsWanting};
+ghost use Rattle.commands.specs.Known.{HoldsOf};
+ghost use Rattle.commands.specs.Refusals.{IsRefusedAs, IsOneOf, IsUntrimmed, IsWanting};
 ghost use Rattle.commands.specs.Trim.{IsApart, TellsTrimming, Trims};
 ghost use Rattle.commands.specs.Written.{IsWritten};
 ghost use Rattle.commands.specs.inner.Feed.{Extends};
@@ -16,9 +16,9 @@ use crate::atomic_write::write_text;
 use crate::disk::Disk;
 use crate::drafts::{Drafts, Target};
 use crate::feed_loop::{Feeds, feed_all};
-use crate::formula::{out_of_memory, read_formula};
 use crate::formula_tree::refused_input;
-use dimacs::Formula;
+use crate::whole_source::{out_of_memory, read_formula};
+use dimacs::{Formula, Limits};
 use lrat_check::CheckFault;
 use lrat_trim::{Trimmed, trim_report};
 use packed_text::PackedText;
@@ -45,7 +45,7 @@ enum TrimText {
 }
 
 /// Takes the next piece of a proof that has no fault so far. It errs with the first fault of the proof.
-fn take(trimming: &mut FormTrimming, piece: &[u8]) -> Result<(), Faulty>
+fn feed_piece(trimming: &mut FormTrimming, piece: &[u8]) -> Result<(), Faulty>
     ensures { (F : Cnf) (bytes : List ℕ) → HasTakenForm F trimming.old bytes → IsTaken F (bytes ++ piece.now) trimming.new result }
 {
     if piece.is_empty() {
@@ -69,9 +69,11 @@ impl Feeds for TrimText {
 
     ghost more = { λ a b c xs ys h k F. extends_more (IsTrimming F) a b c xs ys (h F) (k F) };
 
+    /// Gives the next piece of the proof's file to the trimmer. At the first fault the trimmer is
+    /// dropped, and the fault kept.
     fn feed(&mut self, piece: &[u8]) -> Result<(), Refusal> {
         let faulty = match self {
-            TrimText::Right(trimming) => match take(trimming, piece) {
+            TrimText::Right(trimming) => match feed_piece(trimming, piece) {
                 Ok(()) => return Ok(()),
                 Err(faulty) => faulty,
             },
@@ -81,6 +83,7 @@ impl Feeds for TrimText {
         Ok(())
     }
 
+    /// Whether the proof has a fault, so that the rest of its file changes nothing.
     fn is_settled(&self) -> bool {
         matches!(self, TrimText::Refused(_))
     }
@@ -115,7 +118,7 @@ fn finished(alloc: Global, text: TrimText) -> Result<Report, Refusal>
     }
 }
 
-/// A trimming of a proof of the formula that has taken no byte. It errs if memory runs out.
+/// A trimmer of a proof of the formula that has taken no byte. It errs if memory runs out.
 fn opened(alloc: Global, formula: Formula) -> Result<TrimText, Refusal>
     ensures trims { IfOk result (IsTrimming formula []) }
     ensures refused { IfErr result IsWanting }
@@ -127,7 +130,7 @@ fn opened(alloc: Global, formula: Formula) -> Result<TrimText, Refusal>
 /// Reads the proof in the file `proof`, trims it, and reports the trimmed proof or the first fault. A regular file is read to its end even
 /// after a fault, a pipe up to the first fault. It errs if the proof cannot be read or memory runs out.
 fn trimmed<D: Disk>(disk: &D, formula: Formula, proof: &str) -> Result<Report, Refusal>
-    ensures tells { IfOk result (λ r. Of (D.holds disk.now proof.now) (λ bytes. TellsTrimming formula bytes r)) }
+    ensures tells { IfOk result (λ r. HoldsOf (D.holds disk.now proof.now) (λ bytes. TellsTrimming formula bytes r)) }
     ensures refused { IfErr result (IsRefusedAs Refusal.Proof) }
 {
     let mut text = opened(disk.alloc(), formula)?;
@@ -147,16 +150,16 @@ pub struct TrimFiles<'a> {
     pub out: Target<'a>,
 }
 
-/// Trims the proof in `files.proof`, and reports the trimmed proof or the first fault. It errs if the path of the output leads to one of
-/// the files that are read.
+/// Trims the proof in `files.proof`, unless the path of the output leads to one of the files that
+/// are read, which is an error. Reports the trimmed proof or the first fault.
 fn told_apart<D: Drafts>(
     disk: &D,
     files: &TrimFiles<'_>,
     formula: Formula,
 ) -> Result<Report, Refusal>
-    ensures tells { IfOk result (λ r. Of (D.holds disk.now files.now.proof.now) (λ bytes. TellsTrimming formula bytes r)) }
+    ensures tells { IfOk result (λ r. HoldsOf (D.holds disk.now files.now.proof.now) (λ bytes. TellsTrimming formula bytes r)) }
     ensures apart { OnOk result (IsApart D.apart disk.now files.now) }
-    ensures refused { IfErr result (IsUnread Refusal.Proof Refusal.Writing) }
+    ensures refused { IfErr result (IsOneOf Refusal.Proof Refusal.Writing) }
 {
     let path = files.out.path;
     if disk.is_same(path, files.proof) || disk.is_same(path, files.input) {
@@ -165,22 +168,27 @@ fn told_apart<D: Drafts>(
     trimmed(disk, formula, files.proof)
 }
 
-/// Reads the formula in `files.input`, trims the proof in `files.proof`, and reports the trimmed proof or the first fault. If the formula
-/// has a fault, that is reported, and the proof is not opened.
-fn told<D: Drafts>(disk: &D, files: &TrimFiles<'_>) -> Result<Report, Refusal>
-    ensures tells { IfOk result (λ r. Of (D.holds disk.now files.now.input.now) (λ text. Of (D.holds disk.now files.now.proof.now) (λ bytes. Trims text bytes r))) }
+/// Reads the formula in `files.input` within these limits, trims the proof in `files.proof`, and reports the trimmed proof or the first
+/// fault. If the formula has a fault, that is reported, and the proof is not opened.
+fn read_and_trim<D: Drafts>(
+    disk: &D,
+    limits: Limits,
+    files: &TrimFiles<'_>,
+) -> Result<Report, Refusal>
+    ensures tells { IfOk result (λ r. HoldsOf (D.holds disk.now files.now.input.now) (λ text. HoldsOf (D.holds disk.now files.now.proof.now) (λ bytes. Trims limits text bytes r))) }
     ensures apart { IfOk result (λ r. IsSome r.proof → IsApart D.apart disk.now files.now) }
     ensures refused { IfErr result IsUntrimmed }
 {
     let mut text = disk.open(files.input, Refusal::Input)?;
-    let found = read_formula(disk.alloc(), &mut text)?;
+    let found = read_formula(disk.alloc(), limits, &mut text)?;
     match found {
         Ok(formula) => told_apart(disk, files, formula),
         Err(fault) => refused_input(disk.alloc(), fault),
     }
 }
 
-/// Writes the trimmed proof to a file, if there is one.
+/// Writes the trimmed proof to the output's file; without a proof, after a fault, no file is
+/// touched.
 fn write_out<D: Drafts>(
     disk: &mut D,
     out: Target<'_>,
@@ -196,16 +204,20 @@ fn write_out<D: Drafts>(
     }
 }
 
-/// Trims the proof in `files.proof` of the formula in `files.input`, writes the trimmed proof to `files.out`, and answers the report.
-/// Nothing is written if a fault is reported, and never over a file that is read.
-pub fn trim_files<D: Drafts>(disk: &mut D, files: &TrimFiles<'_>) -> Result<Report, Refusal>
-    ensures tells { IfOk result (λ r. Of (D.holds disk.old files.now.input.now) (λ text. Of (D.holds disk.old files.now.proof.now) (λ bytes. Trims text bytes r))) }
+/// Trims the proof in `files.proof` of the formula in `files.input`, which is read within these limits, writes the trimmed proof to
+/// `files.out`, and answers the report. Nothing is written if a fault is reported, and never over a file that is read.
+pub fn trim_files<D: Drafts>(
+    disk: &mut D,
+    limits: Limits,
+    files: &TrimFiles<'_>,
+) -> Result<Report, Refusal>
+    ensures tells { IfOk result (λ r. HoldsOf (D.holds disk.old files.now.input.now) (λ text. HoldsOf (D.holds disk.old files.now.proof.now) (λ bytes. Trims limits text bytes r))) }
     ensures written { IfOk result (λ r. IsWritten D.kept disk.old disk.new files.now.out.binary files.now.out.path.now r.proof) }
     ensures apart { IfOk result (λ r. IsSome r.proof → IsApart D.apart disk.old files.now) }
     ensures left { OnErr result (disk.new ≡ disk.old) }
     ensures refused { IfErr result IsUntrimmed }
 {
-    let report = told(disk, files)?;
+    let report = read_and_trim(disk, limits, files)?;
     write_out(disk, files.out, &report.proof)?;
     Ok(report)
 }

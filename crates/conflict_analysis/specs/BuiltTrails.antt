@@ -6,14 +6,14 @@ use Rattle.watches.specs.Law.{IsImplied}
 use Rattle.watches.specs.Trails.{holds, present}
 use Rattle.watches.specs.declared.trail.Assigned.{Assigned}
 
--- a decision: a literal that was unassigned, without a reason, which opened the next level
+-- an entry's property: it is a decision, whose literal was unassigned after `front`, without a reason, and which opened the next level
 pub record IsDecided (front : List Assigned) (e : Assigned) : Type 0 where
   pub reason : e.reason ≡ None
   pub not_true : holds front e.literal ≡ false
   pub not_false : holds front (negation e.literal) ≡ false
   pub level : e.level ≡ present front + 1
 
--- each entry after the front was a decision, or implied by a live clause, when it was pushed
+-- a trail's property: each entry after the front was decided, or implied by a live clause, when it was pushed
 abbrev pub AreBuilt : Live → List Assigned → List Assigned → Type 0
 AreBuilt live front [] = Unit {0}
 AreBuilt live front (e ∷ more) = (IsImplied live front e ⊎ IsDecided front e) × AreBuilt live (front ++ e ∷ []) more

@@ -13,11 +13,13 @@ use std::alloc::{AllocError, Global};
 use std::marker::Model;
 use watches::Trail;
 
-/// Analyses conflicts. It keeps its tables from one conflict to the next, so that the time of an analysis is linear in the literals that
-/// it reads, not in the number of variables.
+/// An analyser of conflicts. It keeps its tables from one conflict to the next, so that the time of an analysis is linear in the literals
+/// that it reads, not in the number of variables.
 pub struct Analyser {
     alloc: Global,
+    /// The walk down the trail, with the variables that the last analysis met.
     walk: TrailWalk,
+    /// The test of literals that the lemma does not need.
     minimiser: Minimiser,
 }
 
@@ -51,22 +53,22 @@ impl Analyser {
         }
     }
 
-    /// The variables of the clauses that the last lemma's hints name, each once. They are to be bumped.
+    /// The variables of the clauses that the last lemma's hints name, each once: the search bumps them.
     pub fn met(&self) -> &[Var]
         ensures { result.now ≡ self.now.once }
     {
         &self.walk.met
     }
 
-    /// The repeated variables of the false clause and of the reasons of the present level: a variable that is in n of these literals is
-    /// listed n - 1 times.
+    /// The repeated variables of the last conflict: a variable that is in n literals of the false clause and of the reasons of entries of
+    /// the present level is listed n - 1 times.
     pub fn met_again(&self) -> &[Var]
         ensures { result.now ≡ self.now.again }
     {
         &self.walk.again
     }
 
-    /// The lemma of a conflict: of the false clause `number`, which has a literal of the present level, above level 0.
+    /// Makes the lemma of a conflict: of the false clause `number`, which has a literal of the present level, above level 0.
     ///
     /// The lemma follows by reverse unit propagation along its hints, which are in trail order with the false clause last. Its literals
     /// are false, and exactly one is of the present level: the negation of the first unique implication point. Its level, to which the
@@ -88,7 +90,9 @@ impl Analyser {
         Ok(lemma)
     }
 
-    /// As `analyse`, but overwrites `lemma` and reuses its memory. If memory is refused, `lemma` may hold anything.
+    /// Makes the lemma of a conflict, that of the first unique implication point, and overwrites
+    /// `lemma` with it, whose memory is used again. If memory is refused, `lemma` may hold
+    /// anything.
     pub fn analyse_into(
         &mut self,
         arena: &Arena,
@@ -112,7 +116,8 @@ impl Analyser {
     }
 }
 
-/// The lemma of one conflict, as of `Analyser::analyse`.
+/// Makes the lemma of one conflict, that of the first unique implication point, with an analyser
+/// that is used for it alone.
 pub fn analyse(
     alloc: Global,
     arena: &Arena,

@@ -29,7 +29,7 @@ pub enum Closing {
     Assumption(Lit),
 }
 
-/// Marks the variables of a clause as seen.
+/// Marks the variables of a clause as seen. `front` is the part of the trail that has not been walked yet.
 fn mark_clause(front: &[Assigned], seen: &mut Seen, clause: &[Lit])
     requires known { AreKnown front.now (met seen.old) clause.now }
     requires sized { (k : Literal) → Contains clause.now k → var_of k < length seen.old }
@@ -41,7 +41,7 @@ fn mark_clause(front: &[Assigned], seen: &mut Seen, clause: &[Lit])
     }
 }
 
-/// Marks the variables of the clause of a number as seen.
+/// Marks the variables of the live clause of this number as seen.
 fn mark_number(arena: &Arena, front: &[Assigned], seen: &mut Seen, number: u64)
     requires sized { (C : Clause) → live_of arena.now number C → (k : Literal) → Contains C k → var_of k < length seen.old }
     requires known { (C : Clause) → live_of arena.now number C → AreKnown front.now (met seen.old) C }
@@ -54,8 +54,8 @@ fn mark_number(arena: &Arena, front: &[Assigned], seen: &mut Seen, number: u64)
     }
 }
 
-/// Steps past entry i of the trail. If its variable was seen and the entry is implied, its reason becomes a hint, whose variables are
-/// marked; if it is a decision, its negation becomes a literal of the lemma.
+/// Steps past the entry at index i of the trail. If its variable was seen and the entry is implied, appends its reason to the hints and
+/// marks the reason's variables; if it is a decision, appends its negation to the lemma.
 fn trace_entry(
     arena: &Arena,
     entries: &[Assigned],
@@ -85,7 +85,7 @@ fn trace_entry(
     }
 }
 
-/// Walks the entries from the last to the first, so that the hints are in reverse trail order.
+/// Traces the seen entries from the last to the first, so that the hints come in reverse trail order.
 fn trace(
     arena: &Arena,
     entries: &[Assigned],
@@ -106,7 +106,9 @@ fn trace(
     Ok(())
 }
 
-/// Completes a lemma, from a clause that is false except for the literals that the lemma has: adds negations of decisions, and the hints.
+/// Completes a lemma from a false clause: marks its variables, traces them back to decisions, whose
+/// negations become literals, and ends the list of hints with the clause's number. The clause may
+/// also have a literal that is not false, if the lemma has it already.
 fn close(
     arena: &Arena,
     entries: &[Assigned],
@@ -129,7 +131,7 @@ fn close(
     lemma.conclude(number)
 }
 
-/// The place of a true literal's entry.
+/// The index of a true literal's entry.
 fn place_of(entries: &[Assigned], literal: Lit) -> usize
     requires { holds entries.now literal ≡ true }
     ensures below { result < length entries.now }
@@ -142,7 +144,8 @@ fn place_of(entries: &[Assigned], literal: Lit) -> usize
     i
 }
 
-/// Completes an empty lemma from an assumption whose negation was implied.
+/// Completes an empty lemma from an assumption whose negation was implied: the negation's reason is
+/// traced back to decisions as a false clause is.
 fn close_assumption(
     arena: &Arena,
     entries: &[Assigned],
@@ -168,8 +171,8 @@ fn close_assumption(
     close(arena, &entries[..place], seen, number, lemma)
 }
 
-/// The lemma that closes a cube: it follows by reverse unit propagation along its hints. Its literals are negations of decisions, and of
-/// the false assumption if there is one. Its level is 0.
+/// Makes the lemma that closes a cube: it follows by reverse unit propagation along its hints. Its literals are negations of decisions, and
+/// of the false assumption if there is one. Its level is 0.
 pub fn close_cube(
     alloc: Global,
     arena: &Arena,

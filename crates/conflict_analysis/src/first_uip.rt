@@ -21,19 +21,20 @@ use dimacs::{Lit, Var};
 use std::alloc::{AllocError, Global};
 use watches::{Assigned, Trail};
 
-/// The recursion limit of minimisation, in reasons.
+/// The recursion limit of minimisation: the greatest number of reasons in a chain.
 const MOST_REASONS: u32 = 1000;
 
-/// Trail entries per block.
+/// The number of trail entries per block.
 const BLOCK: usize = 8;
 
-/// A walk down a trail whose present level is `present`. An entry is met if a clause of the analysis so far has its variable.
+/// A walk down a trail. An entry is met if a clause of the analysis so far has its variable.
 ///
 /// `seen` has the variables of entries that were met, and `met` lists them; `again` lists a variable once more each time that a clause of
-/// the present level repeats it. Of the met entries that are not passed yet, `pending` are of the present level and `rest` of lower ones.
-/// `blocks` has the blocks of eight entries in which an entry was met, so that the walk skips the others by one test each.
+/// the present level repeats it. `present` is the trail's present level. Of the met entries that are not passed yet, `pending` are of the
+/// present level and `rest` of lower ones. `blocks` has the blocks of eight entries in which an entry was met, so that the walk skips the
+/// others by one test each.
 ///
-/// The front, a parameter of the methods, is the part of the trail that is not passed yet.
+/// The front, a parameter of the methods, is the prefix of the trail that is not passed yet.
 #[derive(Drop)]
 pub(crate) struct TrailWalk {
     pub(crate) seen: Seen,
@@ -42,8 +43,8 @@ pub(crate) struct TrailWalk {
     pub(crate) rest: usize,
     pub(crate) met: Vec<Var>,
     pub(crate) again: Vec<Var>,
-    /// Whether repeated variables are listed in `again`: while the clause is the false one, or the reason of an entry of the present
-    /// level.
+    /// Whether repeated variables are listed in `again`: true while the clause that is read is the false one, or the reason of an entry of
+    /// the present level.
     pub(crate) notes: bool,
     pub(crate) blocks: Seen,
 }
@@ -66,7 +67,8 @@ impl TrailWalk {
         }
     }
 
-    /// Begins at the end of a trail, with no entry met.
+    /// Begins the analysis of a new conflict: the walk stands at the end of the trail, and no entry
+    /// is met.
     pub(crate) fn begin(&mut self, trail: &Trail) -> Result<(), AllocError>
         requires { IsTrailValue trail.now }
         ensures walk { OnOk result (IsWalk trail.now trail.now.entries self.new) }
@@ -83,7 +85,7 @@ impl TrailWalk {
         Ok(())
     }
 
-    /// Meets the literals of the clause of a number, which are all false except the literal of a met entry that it implied.
+    /// Meets the literals of the live clause of this number, which are all false except the literal of a met entry that the clause implied.
     pub(crate) fn analyse_number(
         &mut self,
         arena: &Arena,
@@ -106,7 +108,7 @@ impl TrailWalk {
         }
     }
 
-    /// Meets the literals of a clause.
+    /// Meets the literals of a clause, which are all false except the literal of a met entry that the clause implied.
     fn analyse_clause(
         &mut self,
         trail: &Trail,
@@ -127,7 +129,9 @@ impl TrailWalk {
         Ok(())
     }
 
-    /// Meets a false literal: counts its entry if its variable was not seen.
+    /// Meets a literal. If its variable was seen, it is listed as a repeated one. Else the entry
+    /// that made it false counts as met: in `pending` if it is of the present level, else in
+    /// `rest`.
     fn analyse_literal(
         &mut self,
         trail: &Trail,
@@ -160,7 +164,8 @@ impl TrailWalk {
         Ok(())
     }
 
-    /// Lists a repeated variable in `again` if the clause is of the present level.
+    /// Lists a repeated variable in `again`, for a second bump, if `notes` is true: the clause is
+    /// the conflict or a reason of an entry of the present level.
     #[inline(always)]
     fn note(&mut self, var: Var) -> Result<(), AllocError>
         requires { met self.old.seen var ≡ true }
@@ -174,8 +179,8 @@ impl TrailWalk {
         Ok(())
     }
 
-    /// Walks down from the trail's end until no met entry is left. The lemma gets the literals that are kept, and the hints in reverse
-    /// trail order.
+    /// Walks down from the trail's end until no met entry is left. Appends the literals that are kept to the lemma, and the hints in
+    /// reverse trail order.
     pub(crate) fn descend(
         &mut self,
         arena: &Arena,
@@ -205,7 +210,8 @@ impl TrailWalk {
         Ok(())
     }
 
-    /// Skips the blocks before a place that have no met entry, if the place is the end of a block.
+    /// Skips blocks without a met entry downwards from index `end`, if it is the end of a block. Returns the end of the next block that has
+    /// a met entry, or 0; `end` itself if it is not the end of a block.
     #[inline(always)]
     fn skip_blocks(&self, end: usize) -> usize
         requires { end / 8 ≤ length self.now.blocks }
@@ -222,7 +228,8 @@ impl TrailWalk {
         block * BLOCK
     }
 
-    /// Steps past entry i. If it was met, it is resolved with its reason, which becomes a hint, or it is kept in the lemma.
+    /// Steps past the entry at index i. If it was met, it is resolved with its reason, which becomes a hint, or its negation is kept in the
+    /// lemma.
     fn visit_entry(
         &mut self,
         arena: &Arena,
@@ -258,7 +265,8 @@ impl TrailWalk {
         }
     }
 
-    /// Steps past entry i and no longer counts it. Returns whether it was met.
+    /// Steps past the entry at index i. Returns whether it was met; if it was, it leaves the count
+    /// of met entries that are still to come (`pending` or `rest`).
     fn step_past(&mut self, trail: &Trail, i: usize) -> bool
         requires within { i < length trail.now.entries }
         requires walk { IsWalk trail.now (take (i + 1) trail.now.entries) self.old }
@@ -283,8 +291,9 @@ impl TrailWalk {
         true
     }
 
-    /// The reason with which a met entry is resolved; None if it is kept in the lemma. Of the present level, all entries are resolved
-    /// except the last that is left, the first unique implication point. Of lower levels, those of level 0 and the removable ones.
+    /// Chooses the reason with which a met entry is resolved; None if the entry is kept in the lemma. Of the present level, all entries are
+    /// resolved except the last that is left, the first unique implication point. Of lower levels, those of level 0 and the removable ones
+    /// are resolved.
     fn reason_to_resolve(
         &self,
         arena: &Arena,

@@ -1,4 +1,4 @@
-//! Lemmas with their hints.
+//! A lemma with its hints.
 
 ghost use Rattle.std.specs.Prelude.{◌≡◌, max, [], ◌∷◌, ◌++◌, reverse, OnOk};
 ghost use Rattle.dimacs.specs.logic.Literal.{negation};
@@ -7,17 +7,19 @@ use dimacs::Lit;
 use std::alloc::{AllocError, Global};
 use watches::Assigned;
 
-/// A lemma, its hints (the numbers of the clauses by which it follows by reverse unit propagation, in their order), and the level to
-/// which the search backjumps.
+/// A lemma with its hints.
 #[derive(Drop)]
 pub struct Lemma {
+    /// The literals, none of them twice.
     pub lits: Vec<Lit>,
+    /// The numbers of the clauses by which the lemma follows by reverse unit propagation, in their order.
     pub hints: Vec<u64>,
+    /// The level to which the search backjumps.
     pub level: u32,
 }
 
 impl Lemma {
-    /// A lemma without literals and hints.
+    /// An empty lemma without hints, with backjump level 0.
     pub fn new(alloc: Global) -> Lemma
         ensures lits { result.lits.items ≡ [] }
         ensures hints { result.hints.items ≡ [] }
@@ -30,7 +32,7 @@ impl Lemma {
         }
     }
 
-    /// Removes all literals and hints, and keeps the memory.
+    /// Removes all literals and hints, sets the backjump level to 0, and keeps the memory.
     pub(crate) fn clear(&mut self)
         ensures lits { self.new.lits.items ≡ [] }
         ensures hints { self.new.hints.items ≡ [] }
@@ -41,7 +43,8 @@ impl Lemma {
         self.level = 0;
     }
 
-    /// Adds the negation of an entry's literal. If the entry is below the present level, the backjump level is at least the entry's.
+    /// Appends the negation of an entry's literal. If the entry is below the present level and above the backjump level, the backjump level
+    /// is raised to the entry's.
     pub(crate) fn keep(&mut self, entry: &Assigned, present: u32) -> Result<(), AllocError>
         ensures lits { OnOk result (self.new.lits.items ≡ self.old.lits.items ++ negation entry.now.literal ∷ []) }
         ensures hints { self.new.hints.items ≡ self.old.hints.items }
@@ -55,7 +58,7 @@ impl Lemma {
         Ok(())
     }
 
-    /// Ends a lemma: reverses the hints, which were pushed in reverse trail order, and appends the false clause.
+    /// Ends a lemma: reverses the hints, which were pushed in reverse trail order, and appends the number of the false clause.
     pub(crate) fn conclude(&mut self, number: u64) -> Result<(), AllocError>
         ensures lits { self.new.lits.items ≡ self.old.lits.items }
         ensures hints { OnOk result (self.new.hints.items ≡ reverse self.old.hints.items ++ number ∷ []) }

@@ -12,22 +12,23 @@ use dimacs::{Lit, Var};
 use std::alloc::{AllocError, Global};
 use watches::{Trail, Truth};
 
-/// What is known of a literal of a reason, without following its reason.
+/// What is known of a literal of a reason, before its own reason is read.
 enum Removability {
-    /// It was met, is false at level 0, or follows from such literals.
+    /// The literal was met, is false at level 0, or follows from such literals.
     Removable,
-    /// It does not follow.
+    /// The literal does not follow from such literals, as far as chains of bounded length show.
     Poison,
-    /// It follows if the other literals of its reason, the clause of this number, do.
+    /// The literal follows if the other literals of its reason, the clause of this number, do.
     Open(u64),
 }
 
-/// Tests whether an entry follows, by its reason, from entries that the analysis has met. It caches answers until the next analysis
+/// Tests whether an entry follows, by its reason, from entries that the analysis has met. Answers are cached until the next analysis
 /// begins. They stay right as the analysis goes on, since what it meets later follows from what it met before.
 ///
 /// An answer is a stamp in a table by variable, `removable` or `poison`. New stamps invalidate all answers at once.
 #[derive(Drop)]
 pub(crate) struct Minimiser {
+    /// By variable: the stamp `removable` or `poison` if there is an answer, else an older stamp.
     pub(crate) answers: Vec<u32>,
     /// The stamp of a variable whose entry is removable.
     pub(crate) removable: u32,
@@ -36,7 +37,7 @@ pub(crate) struct Minimiser {
 }
 
 impl Minimiser {
-    /// A minimiser without room for variables.
+    /// A minimiser without answers and without room for variables.
     pub(crate) fn new(alloc: Global) -> Minimiser {
         Minimiser {
             answers: Vec::new(alloc),
@@ -45,7 +46,8 @@ impl Minimiser {
         }
     }
 
-    /// Invalidates all answers, and makes room for the variables from 1 to `vars`.
+    /// Invalidates the cached answers of the last conflict, by two fresh stamps, and makes room for
+    /// the variables from 1 to `vars`.
     pub(crate) fn begin(&mut self, vars: u32) -> Result<(), AllocError>
         ensures { OnOk result (HasRoom vars self.new) }
     {
@@ -59,7 +61,7 @@ impl Minimiser {
         Ok(())
     }
 
-    /// Whether each literal of the clause of a number follows from literals that were `met`, by chains of at most `depth` reasons.
+    /// Whether each literal of the live clause of this number follows from literals that were `met`, by chains of at most `depth` reasons.
     pub(crate) fn follows(
         &mut self,
         arena: &Arena,
@@ -128,7 +130,7 @@ impl Minimiser {
         }
     }
 
-    /// Caches an answer.
+    /// Caches whether the entry of this variable is removable, so that it is tried once a conflict.
     fn note(&mut self, var: Var, removable: bool)
         requires { var < length self.old.answers.items }
         ensures { length self.new.answers.items ≡ length self.old.answers.items }

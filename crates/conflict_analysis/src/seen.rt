@@ -11,7 +11,9 @@ use std::marker::Model;
 /// new stamp empties the set.
 #[derive(Drop)]
 pub(crate) struct Seen {
+    /// By number.
     stamps: Vec<u32>,
+    /// The present stamp.
     stamp: u32,
 }
 
@@ -47,7 +49,8 @@ impl Seen {
         })
     }
 
-    /// Empties the set, and makes room for the variables from 1 to `vars`.
+    /// Empties the set by a new stamp, which no number has, and makes room for the numbers from 0
+    /// to `vars`. If no stamp is left, the table is cleared.
     pub(crate) fn restart(&mut self, vars: u32) -> Result<(), AllocError>
         ensures room { OnOk result (vars < length self.new) }
         ensures none { OnOk result ((v : ℕ) → met self.new v ≡ false) }
@@ -70,7 +73,7 @@ impl Seen {
         self.stamps[row] == self.stamp
     }
 
-    /// Adds a number.
+    /// Adds a number to the set.
     #[inline(always)]
     pub(crate) fn insert_at(&mut self, row: usize)
         requires { row < length self.old }
@@ -88,7 +91,7 @@ impl Seen {
         self.has_at(var.number() as usize)
     }
 
-    /// Adds a variable.
+    /// Adds a variable to the set.
     #[inline(always)]
     pub(crate) fn insert(&mut self, var: Var)
         requires { var < length self.old }
@@ -98,7 +101,7 @@ impl Seen {
     }
 }
 
-/// Grows a table to at least `places` stamps. New stamps are 0, which is never the present one.
+/// Grows a table to at least `places` stamps; they are unchanged, and new ones are 0, which is never the present stamp.
 pub(crate) fn make_room(stamps: &mut Vec<u32>, places: usize) -> Result<(), AllocError>
     ensures room { OnOk result (places ≤ length stamps.new.items) }
     ensures bounded { (n : ℕ) → All (λ s. s ≤ n) stamps.old.items → All (λ s. s ≤ n) stamps.new.items }
@@ -109,7 +112,7 @@ pub(crate) fn make_room(stamps: &mut Vec<u32>, places: usize) -> Result<(), Allo
     Ok(())
 }
 
-/// Sets each stamp to 0.
+/// Sets each stamp to 0, if no fresh stamp is left.
 pub(crate) fn clear(stamps: &mut Vec<u32>)
     ensures len { length stamps.new.items ≡ length stamps.old.items }
     ensures cleared { All (λ s. s ≤ 0) stamps.new.items }

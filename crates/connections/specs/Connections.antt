@@ -1,4 +1,4 @@
--- Which places of a listener have a connection, and what was read ahead.
+-- The places of a listener that have a connection, and its read buffer.
 use Rattle.std.specs.Prelude.{Bool, List, map, is_some}
 use Rattle.connections.specs.Unread.{Unread}
 use Rattle.connections.specs.declared.listener.Connections.{Connections}
@@ -7,6 +7,6 @@ use Rattle.connections.specs.declared.listener.Connections.{Connections}
 abbrev pub links_of : {C : Type 0} → Connections C → List Bool
 links_of connections = map (λ e. is_some e) connections.slots.items
 
--- the bytes that were read and not handed out yet
+-- the bytes of a listener that were read and not handed out yet
 abbrev pub unread_of : {C : Type 0} → Connections C → Unread
 unread_of connections = connections.buffer

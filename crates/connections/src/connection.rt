@@ -8,17 +8,19 @@ use links::LinkFault;
 use std::io;
 use std::io::{ErrorKind, Read, Write};
 
-/// A non-blocking stream, and what mio reported of it.
+/// A connection: a non-blocking stream, and what mio reported of it.
 #[derive(Drop)]
 pub(crate) struct Connection<S> {
+    /// The non-blocking stream.
     pub(crate) stream: S,
-    /// Whether a read may find something.
+    /// Whether a read may find bytes or the end of the stream.
     pub(crate) is_ready: bool,
-    /// Whether mio reported that the peer hung up, or a fault.
+    /// Whether mio reported that the peer hung up, or an error.
     pub(crate) has_hung_up: bool,
 }
 
-/// Reads once, and answers how many bytes; `None` if nothing is there yet (`WouldBlock`). A read that a signal interrupted is tried again.
+/// Reads once from a stream. Returns how many bytes; `None` if nothing has come yet (`WouldBlock`). A read that a signal interrupted is
+/// tried again.
 fn read_now<S: Read>(stream: &mut S, room: &mut [u8]) -> io::Result<Option<usize>>
     ensures within { IfOk result (λ found. IfSome found (λ count. count ≤ length room.new)) }
     ensures bytes { IfOk result (λ found. Reads (S.remaining stream.old) found room.new (S.remaining stream.new)) }
@@ -36,7 +38,7 @@ fn read_now<S: Read>(stream: &mut S, room: &mut [u8]) -> io::Result<Option<usize
 }
 
 impl<S: Read> Connection<S> {
-    /// Reads once, and answers how many bytes; `None` if nothing is there yet. 0 bytes mean that the connection has ended, or failed.
+    /// Reads once. Returns how many bytes; `None` if nothing has come yet. 0 bytes mean that the connection has ended, or failed.
     ///
     /// mio is edge-triggered: read until WouldBlock or a short read. A hang-up is not reported again, so it is remembered, and after one
     /// the stream is read until it answers 0 bytes.
@@ -62,7 +64,7 @@ impl<S: Read> Connection<S> {
 }
 
 impl<S: Write> Connection<S> {
-    /// Writes all bytes without blocking. If the socket's buffer has no room for them, that is an error.
+    /// Writes all bytes without blocking. It is an error if the socket's buffer has no room for them.
     pub(crate) fn write(&mut self, bytes: &[u8]) -> Result<(), LinkFault>
         ensures { OnOk result (Appends (S.contents self.old.stream) (S.contents self.new.stream) bytes.now) }
     {

@@ -19,38 +19,42 @@ use std::io::ErrorKind;
 use std::net::{Ipv4Addr, Net, SocketAddr};
 use std::time::{Clock, Duration};
 
-/// How many events mio reports at once.
+/// The greatest number of events that mio reports at once.
 const EVENTS: usize = 64;
 
 /// Timeout of a poll, in seconds.
 const TICK: u64 = 1;
 
-/// How many reads are made at most between two polls, so that a connection that floods holds up no other for long.
+/// The greatest number of reads between two polls, so that a connection that floods holds up no other for long.
 const MOST_READS: u32 = 64;
 
 /// A listener, its connections, and the clock that gives each arrival its tick.
 #[derive(Drop)]
 pub struct Connections<C> {
     clock: C,
+    /// The time that was read from the clock last, in seconds.
     tick: u64,
     poll: Poll,
+    /// The events of the last poll.
     events: Events,
     listener: TcpListener,
+    /// By place: the connection; None if the slot is free.
     slots: Vec<Option<Connection<TcpStream>>>,
+    /// Bytes that were read from one connection and not handed out yet.
     buffer: ReadBuffer,
-    /// How many reads were made since the last poll.
+    /// The number of reads since the last poll.
     reads: u32,
     /// Whether the last event was `Quiet`.
     is_quiet: bool,
-    /// The place to read first: connections are read in turn.
+    /// The place from which the next read begins: connections are read in turn.
     cursor: u8,
     /// Whether a connection may wait to be accepted.
     may_accept: bool,
-    /// Whether the last event was a new connection: then the others are read before the next one is accepted.
+    /// Whether the last event was a new connection: if it was, the others are read before the next one is accepted.
     has_accepted: bool,
 }
 
-/// Listens at a port of 127.0.0.1, and registers the listener with a new poll.
+/// Listens at a port of 127.0.0.1, and registers the listener with a new poll. An error is that of the listener or the poll.
 fn listen<R: Net>(net: &R, port: u16) -> io::Result<(Poll, TcpListener)> {
     let at = SocketAddr::from((Ipv4Addr::LOCALHOST, port));
     let mut listener = TcpListener::bind(net, at)?;
@@ -61,8 +65,8 @@ fn listen<R: Net>(net: &R, port: u16) -> io::Result<(Poll, TcpListener)> {
 }
 
 impl<C> Connections<C> {
-    /// Listens at a port of 127.0.0.1, or at a free one if `port` is 0, with places for `count` links. Whether it can, the operating system
-    /// decides; an error is that of the listener, or want of memory.
+    /// Listens at a port of 127.0.0.1, or at a free one if `port` is 0, with places for `count` links. The operating system decides whether
+    /// it can. An error is that of the listener, or memory was refused.
     pub fn open<R: Net>(
         net: &R,
         alloc: Global,
@@ -95,18 +99,19 @@ impl<C> Connections<C> {
         })
     }
 
-    /// The port at which it listens.
+    /// The port at which the listener listens.
     pub fn port(&self) -> io::Result<u16> {
         Ok(self.listener.local_addr()?.port())
     }
 
-    /// Whether a read or an accept may find something without a poll.
+    /// Whether a read or an accept may find something without a poll: mio reports only changes, so
+    /// what was reported may be left over.
     fn is_busy(&self) -> bool {
         is_ready(&self.slots) || (self.may_accept && free_place(&self.slots).is_some())
     }
 
-    /// Polls mio, unless something is known to be ready and few reads were made. The poll waits only if nothing is ready and the last event
-    /// was `Quiet`: so the caller learns first that nothing has come, and can use the time.
+    /// Polls mio, unless a connection is known to be ready and fewer than `MOST_READS` reads were made since the last poll. The poll waits
+    /// only if nothing is ready and the last event was `Quiet`: so the caller learns first that nothing has come, and can use the time.
     fn poll_events(&mut self) -> io::Result<()>
         ensures links { links_of self.new ≡ links_of self.old }
         ensures unread { unread_of self.new ≡ unread_of self.old }
@@ -125,7 +130,8 @@ impl<C> Connections<C> {
         Ok(())
     }
 
-    /// Registers a connection, and puts it into a slot. `TCP_NODELAY` is set: a small packet does not wait for the next.
+    /// Registers a new connection with the poll, and puts it into the free slot at this place. `TCP_NODELAY` is set: a small packet does
+    /// not wait for the next.
     fn link(&mut self, place: u8, mut stream: TcpStream) -> io::Result<()>
         requires { place < length (links_of self.old) }
         ensures ok { OnOk result (links_of self.new ≡ set (links_of self.old) place true) }
@@ -145,8 +151,9 @@ impl<C> Connections<C> {
         Ok(())
     }
 
-    /// Accepts a connection if a slot is free, and answers its place. An error of one connection ends nothing else: if the peer has closed
-    /// it, the next accept is tried at once, else at the next event of the listener, hang-up or tick.
+    /// Accepts a connection if a slot is free. Returns its place; None if there is no free slot or no connection. An error of one
+    /// connection ends nothing else: if the peer has closed it, the next accept is tried at once, else at the next event of the listener,
+    /// hang-up or tick.
     fn accept(&mut self) -> Option<u8>
         ensures some { IfSome result (λ place. Changes (events.Linked place) (links_of self.old) (links_of self.new)) }
         ensures none { IfNone result (links_of self.new ≡ links_of self.old) }
@@ -165,7 +172,8 @@ impl<C> Connections<C> {
         }
     }
 
-    /// Reads into the buffer from the next ready connection in turn. Answers its place and how many bytes; 0 bytes mean its end.
+    /// Reads into the empty buffer from the next ready connection in turn. Returns its place and how many bytes; 0 bytes mean its end. None
+    /// if no connection has something.
     fn read_ahead(&mut self) -> Option<(u8, usize)>
         requires { (unread_of self.old).bytes ≡ [] }
         ensures links { links_of self.new ≡ links_of self.old }
@@ -183,8 +191,9 @@ impl<C> Connections<C> {
         found
     }
 
-    /// Reads from the next ready connection in turn, and puts at the front of the room what fits. Answers its place and how many bytes; 0
-    /// bytes mean its end. Bytes that do not fit stay in the buffer.
+    /// Reads from the next ready connection in turn, and puts the bytes that fit at the front of the room. Returns its place and how many
+    /// bytes; 0 bytes mean its end. Bytes that do not fit stay in the buffer. None if the buffer has bytes already, or no connection has
+    /// something.
     fn read(&mut self, room: &mut [u8]) -> Option<(u8, usize)>
         ensures within { IfSome result (λ found. found.1 ≤ length room.new) }
         ensures links { links_of self.new ≡ links_of self.old }
@@ -202,7 +211,7 @@ impl<C> Connections<C> {
         self.buffer.take(room)
     }
 
-    /// Accepts a connection if one may wait, and the last event was not a new connection.
+    /// Accepts a connection if one may wait and the last event was not a new connection. Returns its place; None if there is none.
     fn accept_in_turn(&mut self) -> Option<u8>
         ensures some { IfSome result (λ place. Changes (events.Linked place) (links_of self.old) (links_of self.new)) }
         ensures none { IfNone result (links_of self.new ≡ links_of self.old) }
@@ -214,7 +223,7 @@ impl<C> Connections<C> {
         None
     }
 
-    /// The next event without a poll: new connections and bytes of the others take turns.
+    /// Finds the next event without a poll: new connections and bytes of the others take turns; `Quiet` if nothing has come.
     fn take_next(&mut self, room: &mut [u8]) -> Event
         requires { 0 < length room.old → (unread_of self.old).bytes ≡ [] }
         ensures finds { Finds (unread_of self.old) result room.new (unread_of self.new) }
@@ -234,7 +243,7 @@ impl<C> Connections<C> {
 }
 
 impl<C: Clock> Connections<C> {
-    /// Reads the clock, in seconds. After each tick an accept is tried again: what hindered one may be gone.
+    /// Reads the clock, in seconds. After each tick an accept may be tried again: what hindered one may be gone.
     fn read_clock(&mut self)
         ensures links { links_of self.new ≡ links_of self.old }
         ensures unread { unread_of self.new ≡ unread_of self.old }
@@ -247,7 +256,7 @@ impl<C: Clock> Connections<C> {
         }
     }
 
-    /// The next event after a poll. If the poll fails, nothing comes any more.
+    /// Finds the next event after a poll; `Over` if the poll fails, since nothing comes any more.
     fn poll_next(&mut self, room: &mut [u8]) -> Event
         requires { 0 < length room.old → (unread_of self.old).bytes ≡ [] }
         ensures finds { Finds (unread_of self.old) result room.new (unread_of self.new) }
@@ -262,7 +271,7 @@ impl<C: Clock> Connections<C> {
         }
     }
 
-    /// The next event: bytes that are left in the buffer, or else what a poll finds.
+    /// Finds the next event: bytes that are left in the buffer, or else what comes after a poll.
     fn next_event(&mut self, room: &mut [u8]) -> Event
         ensures finds { Finds (unread_of self.old) result room.new (unread_of self.new) }
         ensures within { IsWithin result (length room.new) }
@@ -276,6 +285,8 @@ impl<C: Clock> Connections<C> {
 }
 
 impl<C: Clock> EventCarrier for Connections<C> {
+    /// Waits for the next event, at most a tick, and notes whether it was `Quiet`: only then the
+    /// next poll may wait.
     fn await_any(&mut self, room: &mut [u8]) -> Arrival
         ensures within { IsWithin result.event (length room.new) }
         // Bytes that are left in the buffer come first, in order and under their place.
@@ -290,6 +301,7 @@ impl<C: Clock> EventCarrier for Connections<C> {
         }
     }
 
+    /// Writes all bytes to the connection at this place without blocking.
     fn carry_to(&mut self, place: u8, bytes: &[u8]) -> Result<(), LinkFault>
         ensures links { links_of self.new ≡ links_of self.old }
         ensures unread { unread_of self.new ≡ unread_of self.old }
@@ -302,6 +314,8 @@ impl<C: Clock> EventCarrier for Connections<C> {
         send(&mut self.slots[place as usize], bytes)
     }
 
+    /// Drops the connection at this place with what was read of it. Its slot is free then, so an
+    /// accept may be tried.
     fn drop_at(&mut self, place: u8)
         ensures links { links_of self.new ≡ set (links_of self.old) place false }
         // No bytes stay in the buffer of a link that was hung up.

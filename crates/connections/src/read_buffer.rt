@@ -1,4 +1,4 @@
-//! The read buffer: bytes that were read from a connection at once, and are handed out in smaller pieces.
+//! The read buffer: bytes that were read from one connection at once, and are handed out in smaller pieces.
 
 use crate::connection::Connection;
 use crate::slots::read_between;
@@ -6,13 +6,15 @@ use std::alloc::{AllocError, Global};
 use std::io::Read;
 use std::marker::Model;
 
-/// How many bytes one read asks for: more than a worker sends in one go, so that mostly a single read finds all that is there.
+/// The number of bytes that one read asks for: more than a worker sends in one go, so that mostly a single read finds all that has come.
 const ROOM: usize = 65_536;
 
-/// The bytes that were read from the connection at `place` and not handed out yet: `room[start..end]`.
+/// A buffer of bytes that were read from the connection at `place` and not handed out yet: `room[start..end]`.
 #[derive(Drop)]
 pub(crate) struct ReadBuffer {
+    /// The memory of the buffer, `ROOM` bytes.
     room: Vec<u8>,
+    /// The place of the connection from which the bytes were read.
     place: u8,
     start: usize,
     end: usize,
@@ -34,7 +36,7 @@ impl ReadBuffer {
     ghost use Rattle.connections.specs.inner.NextEvent.{IsHandedOut};
     ghost use Rattle.connections.specs.inner.Known.{ReadsOne, known_at};
 
-    /// An empty buffer. An error is want of memory.
+    /// An empty buffer. It is an error if memory is refused.
     pub(crate) fn new(alloc: Global) -> Result<ReadBuffer, AllocError>
         ensures { IfOk result (λ a. a.bytes ≡ []) }
     {
@@ -46,15 +48,15 @@ impl ReadBuffer {
         })
     }
 
-    /// Whether bytes are left.
+    /// Whether the buffer has bytes that were not handed out yet.
     pub(crate) fn has_left(&self) -> bool
         ensures { MatchBool result (self.now.bytes ≢ []) (self.now.bytes ≡ []) }
     {
         self.start < self.end
     }
 
-    /// Reads into the empty buffer from the first connection at a place in `from..to` that has something. Answers its place and how many
-    /// bytes; 0 bytes mean that the connection has ended, or failed.
+    /// Reads into the empty buffer from the first connection, at a place in `from..to`, that has something. Returns its place and how many
+    /// bytes; 0 bytes mean that the connection has ended, or failed. None if no connection has something.
     pub(crate) fn read<S: Read>(
         &mut self,
         slots: &mut [Option<Connection<S>>],
@@ -73,8 +75,8 @@ impl ReadBuffer {
         Some((place, count))
     }
 
-    /// Moves bytes of the buffer to the front of the room, as many as fit. Answers their place and how many; `None` if the buffer or the
-    /// room is empty.
+    /// Moves bytes from the front of the buffer to the front of the room, as many as fit. Returns the place of their connection and how
+    /// many; `None` if the buffer or the room is empty.
     pub(crate) fn take(&mut self, room: &mut [u8]) -> Option<(u8, usize)>
         ensures within { IfSome result (λ found. found.1 ≤ length room.new) }
         ensures taken { MatchOption result ((self.new ≡ self.old) × (0 < length room.new → self.old.bytes ≡ [])) (λ found. IsHandedOut self.old found.0 found.1 room.new self.new) }
@@ -89,7 +91,8 @@ impl ReadBuffer {
         Some((self.place, count))
     }
 
-    /// Drops what is left if it was read from the connection at this place.
+    /// Drops the bytes that were read from the connection at this place, if the buffer has any,
+    /// since that connection is closed and its place may be used again.
     pub(crate) fn forget(&mut self, place: u8)
         ensures there { self.old.place ≡ place → self.new.bytes ≡ [] }
         ensures place { self.new.place ≡ self.old.place }

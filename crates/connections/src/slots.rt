@@ -1,4 +1,4 @@
-//! The connections of a listener, by their places: each slot has one or is free.
+//! The slots of a listener: at each place a connection, or none.
 
 ghost use Rattle.std.specs.Prelude.{◌≡◌, ◌<◌, ◌≤◌, ℕ, length, map, replicate, set, get_or, false, true, is_some, IfOk, IfNone, IfSome, IsErr, OnOk};
 ghost use Rattle.std.specs.Io.KnownBytes.{Appends};
@@ -11,10 +11,10 @@ use mio::event::Event;
 use std::alloc::{AllocError, Global};
 use std::io::{Read, Write};
 
-/// The listener's token for mio. The token of a connection is its place, 0 to 255.
+/// The token of the listener for mio. The token of a connection is its place, 0 to 255.
 pub(crate) const LISTENER: usize = 256;
 
-/// So many free slots. An error is want of memory.
+/// Makes this many free slots. It is an error if memory is refused.
 pub(crate) fn places<S: Drop>(
     alloc: Global,
     count: u8,
@@ -28,7 +28,7 @@ pub(crate) fn places<S: Drop>(
     Ok(slots)
 }
 
-/// The first free slot.
+/// The place of the first free slot; None if there is none.
 pub(crate) fn free_place<S>(slots: &[Option<Connection<S>>]) -> Option<u8>
     ensures some { IfSome result (λ place. (place < length slots.now) × (get_or (map (λ e. is_some e) slots.now) place true ≡ false)) }
     ensures none { IfNone result ((place : ℕ) → place < 255 → get_or (map (λ e. is_some e) slots.now) place true ≡ true) }
@@ -44,7 +44,7 @@ pub(crate) fn free_place<S>(slots: &[Option<Connection<S>>]) -> Option<u8>
     None
 }
 
-/// Puts a connection into a slot, or frees the slot.
+/// Puts a connection into the slot at this place, or frees the slot if it is None.
 pub(crate) fn put<S: Drop>(
     slots: &mut [Option<Connection<S>>],
     place: u8,
@@ -56,12 +56,13 @@ pub(crate) fn put<S: Drop>(
     slots[place as usize] = connection;
 }
 
-/// Whether an event reports that the peer hung up, or a fault.
+/// Whether an event reports that the peer hung up, or an error.
 fn is_hang_up(event: &Event) -> bool {
     event.is_read_closed() || event.is_write_closed() || event.is_error()
 }
 
-/// Notes what an event reports of a connection.
+/// Notes in a connection what mio reports of it: it may be read, and perhaps the peer hung up;
+/// nothing changes if the slot is free.
 fn note<S>(connection: &mut Option<Connection<S>>, event: &Event)
     ensures { is_some connection.new ≡ is_some connection.old }
 {
@@ -71,7 +72,7 @@ fn note<S>(connection: &mut Option<Connection<S>>, event: &Event)
     }
 }
 
-/// Notes what the events report of each connection. Answers whether one was the listener's: a connection may wait to be accepted.
+/// Notes what the events report of each connection. Returns true if one was the listener's: a connection may wait to be accepted.
 pub(crate) fn note_all<S>(slots: &mut [Option<Connection<S>>], events: &Events) -> bool
     ensures { map (λ e. is_some e) slots.new ≡ map (λ e. is_some e) slots.old }
 {
@@ -87,7 +88,7 @@ pub(crate) fn note_all<S>(slots: &mut [Option<Connection<S>>], events: &Events) 
     may_accept
 }
 
-/// Writes all bytes without blocking. It is an error if the connection has no room for them, or if there is no connection.
+/// Writes all bytes to a connection without blocking. It is an error if the connection has no room for them, or if the slot is free.
 pub(crate) fn send<S: Write>(
     connection: &mut Option<Connection<S>>,
     bytes: &[u8],
@@ -110,7 +111,7 @@ pub(crate) fn is_ready<S>(slots: &[Option<Connection<S>>]) -> bool {
     })
 }
 
-/// Reads a connection once, if that may find something.
+/// Reads from a connection once, if that may find something. Returns how many bytes; None if nothing has come or the slot is free.
 fn read_slot<S: Read>(connection: &mut Option<Connection<S>>, room: &mut [u8]) -> Option<usize>
     ensures bytes { Reads (known_in S.remaining connection.old) result room.new (known_in S.remaining connection.new) }
     ensures within { IfSome result (λ count. count ≤ length room.new) }
@@ -122,7 +123,8 @@ fn read_slot<S: Read>(connection: &mut Option<Connection<S>>, room: &mut [u8]) -
     }
 }
 
-/// Reads from the first connection at a place in `from..to` that has something. Answers its place and how many bytes; 0 bytes mean its end.
+/// Reads from the first connection, at a place in `from..to`, that has something. Returns its place and how many bytes; 0 bytes mean its
+/// end. None if no connection has something.
 pub(crate) fn read_between<S: Read>(
     slots: &mut [Option<Connection<S>>],
     from: u8,

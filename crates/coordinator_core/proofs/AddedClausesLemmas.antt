@@ -32,6 +32,9 @@ one_leaf = record { leaves = Leaves.leaf; count = omega arith; short = All-cons 
 pub leaf_inside : (B : Cnf) → All (IsOverBase B) ([] ∷ [])
 leaf_inside B = All-cons (IsOverBase B) [] [] (All-nil (IsWithin B.vars)) (All-nil (IsOverBase B))
 
+pub leaf_narrow : All (All (IsWithin 2000000)) ([] ∷ [])
+leaf_narrow = All-cons (All (IsWithin 2000000)) [] [] (All-nil (IsWithin 2000000)) (All-nil (All (IsWithin 2000000)))
+
 -- ---- what is kept fits a frame
 short_of : (F x : Cnf) (old new : Verdict) → IsFormula (extended F x) → Right (extended F x) new → KeptVerdict F x old new → length (bytes_in new) < 2 ^ 32
 short_of F x old new limits right (KeptVerdict.nothing e n) = subst (λ (v : Verdict). length (bytes_in v) < 2 ^ 32) (sym n) (omega arith)
@@ -52,7 +55,7 @@ pub begins_grown : (c : CoordinatorState) (x : Cnf) (session : ℕ) (g : Grown) 
     → (d : Definitions) × AreOf g.formula d × (d.wanted ≡ c.definitions.wanted) × (new ≡ record (beginning g.formula d ([] ∷ []) c.limit (length c.jobs) session) { verdict = g.verdict })
     → ExtendsCoordinator c x session Taken new
 begins_grown c x session g new is (d, defined, wanted, now) =
-    ExtendsCoordinator.taken is.limits g.verdict is.stays refl (record {
+    ExtendsCoordinator.taken (is.limits, is.fits) g.verdict is.stays refl (record {
       definitions = d;
       wanted = wanted;
       defined = subst (λ (F : Cnf). AreOf F d) is.formula defined;
@@ -71,7 +74,7 @@ extended_sound keeps old x session answer new (ExtendsCoordinator.taken limits h
     let d : Definitions = made.definitions in
     let fresh : CoordinatorState = beginning F d ([] ∷ []) old.limit (length old.jobs) session in
     let begun : IsCoordinator fresh =
-    begins F d ([] ∷ []) old.limit (length old.jobs) session limits made.defined (record { is_tree = one_leaf; inside = leaf_inside (base_with F d.pairs) }) is.tables.some_worker is.tables.few_workers in
+    begins F d ([] ∷ []) old.limit (length old.jobs) session limits.0 made.defined (record { is_tree = one_leaf; inside = leaf_inside (base_with F d.pairs); narrow = leaf_narrow }) is.tables.some_worker is.tables.few_workers in
     let deciding : IsDeciding fresh = record { undecided = refl; going = refl } in
-    subst IsCoordinator (sym made.made) (is_decided fresh held deciding right (short_of old.formula x old.verdict held limits right stays) begun)
+    subst IsCoordinator (sym made.made) (is_decided fresh held deciding right (short_of old.formula x old.verdict held limits.0 right stays) begun)
 extended_sound keeps old x session answer new (ExtendsCoordinator.no_memory limits a now) is = subst IsCoordinator (sym now) is

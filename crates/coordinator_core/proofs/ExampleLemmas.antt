@@ -116,11 +116,11 @@ c3 = record (polled c2) { stuck = true }
 
 first_split : MetLimit (polled begun) 1 Taken c1
 first_split = DeliversDone.first (job 1) (record { deciding = record { undecided = refl; going = refl }; session_is = refl; job = refl; number_is = refl }) refl
-    (DeliversFirstDone.limited refl (DeliversLimit.splits 1 (record { may = record { short = omega arith; few = omega arith }; choice = IsChosen.plain (none_open four []) first_choice }) refl refl))
+    (DeliversFirstDone.limited refl (DeliversLimit.splits 1 (record { may = record { short = omega arith; few = omega arith; narrow = omega arith }; choice = IsChosen.plain (none_open four []) first_choice }) refl refl))
 
 second_split : MetLimit (polled c1) 2 Taken c2
 second_split = DeliversDone.first (job 2) (record { deciding = record { undecided = refl; going = refl }; session_is = refl; job = refl; number_is = refl }) refl
-    (DeliversFirstDone.limited refl (DeliversLimit.splits 2 (record { may = record { short = omega arith; few = omega arith }; choice = IsChosen.plain (none_open four (Pos 1 ∷ [])) second_choice }) refl refl))
+    (DeliversFirstDone.limited refl (DeliversLimit.splits 2 (record { may = record { short = omega arith; few = omega arith; narrow = omega arith }; choice = IsChosen.plain (none_open four (Pos 1 ∷ [])) second_choice }) refl refl))
 
 stopped : MetLimit (polled c2) 3 Taken c3
 stopped = DeliversDone.first (job 3) (record { deciding = record { undecided = refl; going = refl }; session_is = refl; job = refl; number_is = refl }) refl
@@ -180,7 +180,7 @@ pair_is = record {
     candidate = record {
       of_formula = record { from_1 = omega arith; rise = omega arith; up_to = omega arith };
       first_undecided = Contains-nil (Pos 1);
-      second_open = Contains-nil (Neg 2);
+      second_undecided = Contains-nil (Neg 2);
     };
     new = Contains-nil the_pair;
     some = omega arith;
@@ -236,7 +236,7 @@ d2 = record (polled d1) { stuck = true }
 
 defined_split : MetLimit (polled begun_with_one) 1 Taken d1
 defined_split = DeliversDone.first (job 1) (record { deciding = record { undecided = refl; going = refl }; session_is = refl; job = refl; number_is = refl }) refl
-    (DeliversFirstDone.limited refl (DeliversLimit.splits 3 (record { may = record { short = omega arith; few = omega arith }; choice = defined_choice }) refl refl))
+    (DeliversFirstDone.limited refl (DeliversLimit.splits 3 (record { may = record { short = omega arith; few = omega arith; narrow = omega arith }; choice = defined_choice }) refl refl))
 
 defined_stopped : MetLimit (polled d1) 2 Taken d2
 defined_stopped = DeliversDone.first (job 2) (record { deciding = record { undecided = refl; going = refl }; session_is = refl; job = refl; number_is = refl }) refl

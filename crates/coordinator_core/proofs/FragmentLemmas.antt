@@ -20,7 +20,7 @@ use Rattle.coordinator_core.specs.declared.job_state.Fixed.{Fixed}
 use Rattle.coordinator_core.specs.declared.job_state.Job.{Job}
 use Rattle.coordinator_core.specs.declared.job_state.LeafState.{LeafState}
 use Rattle.coordinator_core.specs.declared.job_state.LeafState.TheVariants.{Open, GivenTo, Closed}
-use Rattle.coordinator_core.proofs.InvariantLemmas.{at_desk, job_is, closed_all, is_closed, leaf_within}
+use Rattle.coordinator_core.proofs.InvariantLemmas.{at_desk, base_low, job_is, closed_all, is_closed, leaf_within}
 use Rattle.coordinator_core.proofs.Places.{any_default, read_within, set_back}
 
 -- what `close` requires
@@ -188,7 +188,7 @@ ends_too_long c s w n job text rows o texts proof h all are joined long =
 pub some_joined : (c s : CoordinatorState) (w n : ℕ) (job : Job) (text : List ℕ) (rows : LeafRows) (o : Option Job) (texts : List (List ℕ)) → IsShut c s w n job text rows o
     → AreClosed rows.states → texts ≡ rows.fragments → (proof : List ℕ) × JoinedOver c.formula c.definitions.pairs c.tree texts proof
 some_joined c s w n job text rows o texts h all are =
-    joined_some c.formula (coordinator_base c) (preamble_steps c.formula c.definitions.pairs) c.tree texts h.taken.is.grounds.tree_is.is_tree.leaves (all_there c s w n job text rows o texts h all are)
+    joined_some c.formula (coordinator_base c) (preamble_steps c.formula c.definitions.pairs) c.tree texts (base_low c h.taken.is) h.taken.is.grounds.tree_is.is_tree.leaves (all_there c s w n job text rows o texts h all are)
 
 -- the closed leaf is given to the worker again
 pub given_back : (c s : CoordinatorState) (w n : ℕ) (job back : Job) (text before : List ℕ) (rows again : LeafRows) (o : Option Job) → IsShut c s w n job text rows o

@@ -329,6 +329,10 @@ pub pairs_few : (c : CoordinatorState) → IsCoordinator c → length c.definiti
 pairs_few c is =
     let few = few_chosen c.formula c.definitions.wanted c.definitions.pairs is.grounds.defined.defined in omega (arith, few, is.grounds.defined.few)
 
+-- the base is within the limit of every base
+pub base_low : (c : CoordinatorState) → IsCoordinator c → (coordinator_base c).vars ≤ 199999999
+base_low c is = let few = pairs_few c is in omega (arith, few, is.grounds.formula.vars)
+
 -- the leaf of a job is a place of the table, and is not closed
 pub leaf_within : (leaves : List LeafState) (slot : ℕ) (j : Job) → IsJobAt leaves slot j → j.leaf < length leaves
 leaf_within leaves slot j is = got_within leaves j.leaf (GivenTo (slot + 1)) is.given

@@ -1,14 +1,18 @@
 -- A new coordinator.
-use Rattle.std.proofs.Common.{◌≡◌, ℕ, zero, suc, ◌<◌, ◌≤◌, List, [], length, Option, Some, None, slice_get, get_or, All, refl, subst, sym, ap, ◌∙◌, arith}
-use Rattle.std.specs.Prelude.{replicate}
+use Rattle.std.proofs.Common.{◌≡◌, ℕ, zero, suc, ◌<◌, ◌≤◌, inl, inr, List, [], length, Option, Some, None, slice_get, get_or, All, refl, subst, sym, ap, ◌∙◌, arith}
+use Rattle.std.specs.Prelude.{nat_le, replicate}
+use Rattle.std.proofs.lemmas.Bool.{cases_Bool}
+use Rattle.std.proofs.lemmas.Bool.Decides.{nat_tests}
 use Rattle.std.proofs.lemmas.List.{length-replicate}
+use Rattle.std.proofs.lemmas.List.Elements.{All-weaker}
 use Rattle.dimacs.specs.logic.Cnf.{Cnf, IsFormula}
+use Rattle.dimacs.specs.logic.Literal.{IsWithin}
 use Rattle.icnf.specs.Leaves.{Cube}
 use Rattle.icnf.proofs.LeavesLemmas.{leaves_some}
 use Rattle.cube_split.specs.Definitions.{base_with}
 use Rattle.cube_split.specs.Pairs.{AreDefined, AreOf, Definitions, IsBaseWith, no_definitions}
 use Rattle.cube_split.specs.declared.pair.Pair.{Pair}
-use Rattle.cube_split.proofs.DefinedLemmas.{none_chosen}
+use Rattle.cube_split.proofs.DefinedLemmas.{few_chosen, none_chosen}
 use Rattle.cube_split.proofs.PlainLemmas.{plain_base}
 use Rattle.evidence.specs.Jobs.{IsOverBase}
 use Rattle.coordinator_core.specs.Coordinator.{CoordinatorState, new_coordinator, AreClosed, want_at}
@@ -33,6 +37,21 @@ none_closed (suc n) (suc i) h = none_closed n i h
 some_open : (n : ℕ) → 1 ≤ n → AreClosed (replicate n Open) → ⊥
 some_open zero some all = absurd (omega (arith, some))
 some_open (suc n) some all = let e : Open ≡ Closed = all 0 Open (omega arith) in cc
+
+-- within the written limits of a formula every variable of its base is one that a frame may have
+pub narrow_tree : (F : Cnf) (d : Definitions) (tree : List Cube) → AreOf F d → All (IsOverBase (base_with F d.pairs)) tree → (1000000 < F.vars → All (All (IsWithin 2000000)) tree)
+    → All (All (IsWithin 2000000)) tree
+narrow_tree F d tree are inside narrow =
+    let chosen = few_chosen F d.wanted d.pairs are.defined in
+    let few : length d.pairs ≤ 64 = omega (arith, chosen, are.few) in
+    elim (cases_Bool (nat_le F.vars 1000000)) [
+      | inl low ↦
+          let vars : F.vars ≤ 1000000 = grind (arith, nat_tests) in
+          let more : (base_with F d.pairs).vars ≤ 2000000 = omega arith in
+          All-weaker (IsOverBase (base_with F d.pairs)) (All (IsWithin 2000000))
+          (λ q h. All-weaker (IsWithin (base_with F d.pairs).vars) (IsWithin 2000000) (λ l w. (w.0, omega (arith, w.1))) q h) tree inside
+      | inr high ↦ narrow (grind (arith, nat_tests))
+    ]
 
 -- a new coordinator with these definitions
 abbrev pub beginning : Cnf → Definitions → List Cube → ℕ → ℕ → ℕ → CoordinatorState

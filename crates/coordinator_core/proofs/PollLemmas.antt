@@ -8,8 +8,8 @@ use Rattle.std.proofs.lemmas.List.{length-append, take_min, take-map, drop-map}
 use Rattle.std.proofs.lemmas.Bool.{cases_lt}
 use Rattle.dimacs.specs.logic.ClauseMap.{map_of}
 use Rattle.dimacs.specs.logic.Cnf.{Cnf}
-use Rattle.lrat_text.specs.Grammar.{LineSpells}
-use Rattle.lrat_text.specs.Proof.{Accepts, Refutation}
+use Rattle.lrat_text.specs.Grammar.{LineSpellsWithin}
+use Rattle.lrat_text.specs.Proof.{proof_top, Accepts, Refutation}
 use Rattle.lrat_text.specs.declared.step.Step.{Step}
 use Rattle.lrat_check.specs.Judgement.{value_byte}
 use Rattle.lrat_check.specs.Verdicts.{Right}
@@ -32,7 +32,7 @@ use Rattle.coordinator_core.specs.declared.job_state.Fixed.{Fixed}
 use Rattle.coordinator_core.specs.declared.job_state.Job.{Job}
 use Rattle.coordinator_core.proofs.Places.{any_default}
 use Rattle.coordinator_core.proofs.TableLemmas.{open_leaf}
-use Rattle.coordinator_core.proofs.InvariantLemmas.{HasLeaf, task_leaf, job_is, is_given, pairs_few}
+use Rattle.coordinator_core.proofs.InvariantLemmas.{HasLeaf, task_leaf, job_is, is_given}
 
 pub leaf_there : (c s : CoordinatorState) (w leaf : ℕ) → c ≡ s → IsCoordinator c → HasLeaf s w leaf → leaf < length s.tree
 leaf_there c s w leaf same is has = subst (λ (d : CoordinatorState). leaf < length d.tree) same (task_leaf c s w leaf same is has)
@@ -48,7 +48,7 @@ cube_is c s leaf q same is inside here =
     let lt : leaf < length c.tree = subst (λ (d : CoordinatorState). leaf < length d.tree) (sym same) inside in
     subst IsCube (sym here) (record {
       short = t.is_tree.short leaf [] lt;
-      within = λ k d within. let one = t.inside leaf [] lt k d within in (one.0, omega (arith, one.1, is.grounds.formula.vars, pairs_few c is));
+      within = t.narrow leaf [] lt;
       distinct = leaves_distinct none_twice t.is_tree.leaves leaf [] lt;
     })
 
@@ -57,8 +57,8 @@ pub few_bytes : (c s : CoordinatorState) (w : ℕ) (j : Job) (x : Fixed) → c �
 few_bytes c s w j x same is at fixed = (job_is c w j (subst (λ (d : CoordinatorState). job_at d w ≡ Some j) (sym same) at) is).fits x fixed
 
 -- a text that spells a step has at least one byte
-some_byte : (text : List ℕ) (step : Step) (steps : List Step) → LineSpells text (step ∷ steps) → 1 ≤ length text
-some_byte text step steps spells =
+some_byte : (most : ℕ) (text : List ℕ) (step : Step) (steps : List Step) → LineSpellsWithin most text (step ∷ steps) → 1 ≤ length text
+some_byte most text step steps spells =
     let line : List ℕ = spells.0 in
     let rest : List ℕ = spells.1 in
     let is : length text ≡ length (line ++ 10 ∷ rest) = ap length spells.2 in
@@ -67,9 +67,9 @@ some_byte text step steps spells =
 accepts_some : (F : Cnf) (text : List ℕ) → Accepts F text → 1 ≤ length text
 accepts_some F text accepts = go accepts.0 accepts.1 accepts.2
   where
-    go : (steps : List Step) → LineSpells text steps → Refutation (map_of F) (length F.clauses) steps → 1 ≤ length text
+    go : (steps : List Step) → LineSpellsWithin (proof_top F) text steps → Refutation (map_of F) (length F.clauses) steps → 1 ≤ length text
     go [] spells refutation = absurd refutation
-    go (step ∷ steps) spells refutation = some_byte text step steps spells
+    go (step ∷ steps) spells refutation = some_byte (proof_top F) text step steps spells
 
 -- a proof that is held has at least one byte
 pub some_bytes : (F : Cnf) (v : Verdict) → v ≢ Nothing → Right F v → answer_in v ≡ answers.Refuted → 1 ≤ length (bytes_in v)

@@ -1,5 +1,6 @@
 -- A leaf is split: the invariant of the coordinator, over plain values.
 use Rattle.std.proofs.Common.{◌≡◌, ◌≢◌, ℕ, suc, ◌+◌, ◌-◌, ◌<◌, ◌≤◌, true, List, [], ◌∷◌, length, map, Option, Some, None, slice_get, slice_set, get_or, refl, subst, sym, ap, ◌∙◌, ◌⊎◌, inl, inr, arith}
+use Rattle.std.specs.List.{All}
 use Rattle.std.proofs.lemmas.List.{length-append, length-map, length-set}
 use Rattle.std.proofs.lemmas.List.Elements.{All-push}
 use Rattle.std.proofs.lemmas.Option.{get_or_from_slice_get}
@@ -40,6 +41,8 @@ split_tree c leaf v is inside can =
     let short = can.may.short in
     let free : IsFree (cube_at c leaf) v = chosen_free c.formula (coordinator_opening c) (cube_at c leaf) v can.choice in
     let cube_inside : IsOverBase (coordinator_base c) (cube_at c leaf) = t.inside leaf [] inside in
+    let cube_narrow : All (IsWithin 2000000) (cube_at c leaf) = t.narrow leaf [] inside in
+    let narrow : (1 ≤ v) × (v ≤ 2000000) = (within.0, omega (arith, within.1, can.may.narrow)) in
     let few = can.may.few in
     record {
       is_tree = record {
@@ -50,6 +53,8 @@ split_tree c leaf v is inside can =
       };
       inside = all_branched (IsOverBase (coordinator_base c)) c.tree leaf v
           (All-push (IsWithin (coordinator_base c).vars) (cube_at c leaf) (Pos v) cube_inside within) (All-push (IsWithin (coordinator_base c).vars) (cube_at c leaf) (Neg v) cube_inside within) t.inside;
+      narrow = all_branched (All (IsWithin 2000000)) c.tree leaf v
+          (All-push (IsWithin 2000000) (cube_at c leaf) (Pos v) cube_narrow narrow) (All-push (IsWithin 2000000) (cube_at c leaf) (Neg v) cube_narrow narrow) t.narrow;
     }
 
 -- the leaf of a worker's job is split

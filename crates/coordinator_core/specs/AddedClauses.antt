@@ -1,7 +1,8 @@
 -- What a coordinator is after clauses were added to its formula.
 use Rattle.std.specs.Prelude.{◌≡◌, ℕ, [], ◌∷◌, length}
-use Rattle.dimacs.specs.logic.Cnf.{Cnf, IsFormula}
+use Rattle.dimacs.specs.logic.Cnf.{Cnf, FitsIn, IsFormula}
 use Rattle.dimacs.specs.logic.Extension.{extended}
+use Rattle.dimacs.specs.logic.Limits.{written}
 use Rattle.lrat_check.specs.declared.verdict.Reaction.{Reaction}
 use Rattle.lrat_check.specs.declared.verdict.Reaction.TheVariants as reaction
 use Rattle.lrat_check.specs.declared.verdict.Verdict.{Verdict}
@@ -19,9 +20,9 @@ pub record IsExtended (c : CoordinatorState) (x : Cnf) (session : ℕ) (held : V
 
 -- The clauses of x are to be added to the formula of the coordinator c, which is to be restarted in this session.
 pub data ExtendsCoordinator (c : CoordinatorState) (x : Cnf) (session : ℕ) (answer : Reaction) (new : CoordinatorState) : Type 0 where
-  -- the extended formula would exceed a limit
-  too_large : ¬ (IsFormula (extended c.formula x)) → answer ≡ reaction.Refused 4 → new ≡ c → ExtendsCoordinator c x session answer new
+  -- the extended formula would exceed a written limit
+  too_large : ¬ (FitsIn written (extended c.formula x)) → answer ≡ reaction.Refused 4 → new ≡ c → ExtendsCoordinator c x session answer new
   -- the coordinator is restarted, and holds what is kept of its verdict
-  taken : IsFormula (extended c.formula x) → (held : Verdict) → KeptVerdict c.formula x c.verdict held → answer ≡ reaction.Taken → IsExtended c x session held new → ExtendsCoordinator c x session answer new
+  taken : IsFormula (extended c.formula x) × FitsIn written (extended c.formula x) → (held : Verdict) → KeptVerdict c.formula x c.verdict held → answer ≡ reaction.Taken → IsExtended c x session held new → ExtendsCoordinator c x session answer new
   -- memory was refused
-  no_memory : IsFormula (extended c.formula x) → answer ≡ reaction.NoMemory → new ≡ c → ExtendsCoordinator c x session answer new
+  no_memory : FitsIn written (extended c.formula x) → answer ≡ reaction.NoMemory → new ≡ c → ExtendsCoordinator c x session answer new

@@ -113,10 +113,12 @@ closed c worker j text = record c {
   jobs = slice_set c.jobs (worker - 1) None;
 }
 
--- a split of the leaf stays within the limits on trees: its cube has fewer than 64 literals, the tree fewer than 65,536 leaves
+-- a split of the leaf stays within the limits: its cube has fewer than 64 literals, the tree fewer than 65,536 leaves, and the variables of
+-- the base are at most 2,000,000, as in a frame
 pub record MaySplit (c : CoordinatorState) (leaf : ℕ) : Type 0 where
   pub short : length (cube_at c leaf) < 64
   pub few : length c.tree < 65536
+  pub narrow : c.formula.vars + length c.definitions.pairs ≤ 2000000
 
 -- the leaf can be split on v: the split is within the limits, and the split rule chooses v
 pub record CanSplit (c : CoordinatorState) (leaf v : ℕ) : Type 0 where

@@ -3,6 +3,7 @@
 -- what one call needs of the call before it, and nobody has to read it.
 use Rattle.std.specs.Prelude.{◌≡◌, ℕ, ◌+◌, ◌<◌, ◌≤◌, ◌^◌, true, List, [], length, All, Option, Some, None, slice_get, slice_index_or, ◌⊎◌}
 use Rattle.dimacs.specs.logic.Cnf.{Cnf, IsFormula}
+use Rattle.dimacs.specs.logic.Literal.{IsWithin}
 use Rattle.icnf.specs.Leaves.{Cube, IsTree}
 use Rattle.lrat_text.specs.Log.{Closes}
 use Rattle.lrat_check.specs.Verdicts.{Right}
@@ -25,10 +26,11 @@ pub record HasJoined (c : CoordinatorState) : Type 0 where
   pub joined : JoinedOver c.formula c.definitions.pairs c.tree c.fragments text
   pub end : (c.verdict ≡ Proof text) ⊎ ((c.stuck ≡ true) × (2 ^ 32 ≤ length text))
 
--- the cubes are the leaves of a tree, over the variables of the base B
+-- the cubes are the leaves of a tree, over the variables of the base B, and their literals have variables that a frame may have
 pub record IsTreeOf (B : Cnf) (tree : List Cube) : Type 0 where
   pub is_tree : IsTree tree
   pub inside : All (IsOverBase B) tree
+  pub narrow : All (All (IsWithin 2000000)) tree
 
 -- if something is fixed of a job, its evidence has at most as many bytes as were announced
 abbrev pub FitsFixed : Option Fixed → Type 0

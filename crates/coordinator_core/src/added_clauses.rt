@@ -19,7 +19,7 @@ impl Coordinator {
     /// many definitions, a tree of one leaf, the same limit and number of workers, except that it holds what is kept of its verdict: what
     /// is right for the longer formula.
     ///
-    /// `Refused(4)` if the longer formula would exceed a limit. After that and after `NoMemory` the coordinator is unchanged.
+    /// `Refused(4)` if the longer formula would exceed a written limit. After that and after `NoMemory` the coordinator is unchanged.
     pub fn extend(&mut self, extension: &Extension, session: u64) -> Reaction
         ensures { ExtendsCoordinator self.old extension.now session result self.new }
     {

@@ -2,6 +2,7 @@
 
 ghost use Rattle.std.specs.Prelude.{◌≡◌, ◌-◌, ◌≤◌, ◌<◌, ◌^◌, ◌↔◌, IsTrue, length, true, replicate, All, IfOk, OnOk, OnErr, OnSome, IfSome, MatchOption, None, Some};
 ghost use Rattle.dimacs.specs.logic.Cnf.{Cnf};
+ghost use Rattle.dimacs.specs.logic.Literal.{IsWithin};
 ghost use Rattle.cube_split.specs.Definitions.{base_with};
 ghost use Rattle.cube_split.specs.Pairs.{AreOf, Definitions, IsBaseWith};
 ghost use Rattle.lrat_check.specs.Verdicts.{Right};
@@ -126,7 +127,7 @@ impl Drop for Coordinator {
     }
 }
 
-/// Makes the slots of `workers` workers, all without a job.
+/// Makes one slot for each of `workers` workers, all empty: no worker has a job.
 #[tactic(auto, using(crate::proofs::TableLemmas::rows))]
 fn no_jobs(alloc: Global, workers: usize) -> Result<Vec<Option<Job>>, AllocError>
     ensures { IfOk result (λ v. v.items ≡ replicate workers None) }
@@ -138,7 +139,8 @@ fn no_jobs(alloc: Global, workers: usize) -> Result<Vec<Option<Job>>, AllocError
     Ok(jobs)
 }
 
-/// Makes the slots of `workers` workers, all without a noted offset.
+/// Makes one slot for each of `workers` workers, all empty: no worker has sent a Want, which names
+/// the offset of the bytes of the verdict that it needs next.
 fn no_wants(alloc: Global, workers: usize) -> Result<Vec<Option<u32>>, AllocError>
     ensures { IfOk result (λ v. v.items ≡ replicate workers None) }
 {
@@ -147,7 +149,8 @@ fn no_wants(alloc: Global, workers: usize) -> Result<Vec<Option<u32>>, AllocErro
 
 impl Coordinator {
     /// Makes a coordinator without definitions: all leaves are open, and no verdict is held. The tree has to be over the formula's
-    /// variables, and there are 1 to 64 workers. All memory that the coordinator itself needs before the first Done is reserved here.
+    /// variables, and over those of frames if they are more than 1,000,000; and there are 1 to 64 workers. All memory that the coordinator
+    /// itself needs before the first Done is reserved here.
     pub fn new(
         alloc: Global,
         formula: Formula,
@@ -157,6 +160,7 @@ impl Coordinator {
         session: u64,
     ) -> Result<Coordinator, AllocError>
         requires inside { All (IsOverBase formula) tree }
+        requires narrow { 1000000 < formula.vars → All (All (IsWithin 2000000)) tree }
         requires workers { (1 ≤ workers) × (workers ≤ 64) }
         ensures { IfOk result (λ c. c ≡ new_coordinator formula tree limit workers session) }
     {
@@ -164,7 +168,8 @@ impl Coordinator {
     }
 
     /// Makes a coordinator over a base with `defs` definitions, 0 to 64, or fewer if no further pair of literals can be defined. All leaves
-    /// are open, and no verdict is held. The tree has to be over the base's variables.
+    /// are open, and no verdict is held. The tree has to be over the base's variables, and over those of frames if the formula has more
+    /// than 1,000,000.
     pub fn with_defs(
         alloc: Global,
         formula: Formula,
@@ -176,6 +181,7 @@ impl Coordinator {
     ) -> Result<Coordinator, AllocError>
         requires defs { defs ≤ 64 }
         requires inside { (B : Cnf) → IsBaseWith formula defs B → All (IsOverBase B) tree }
+        requires narrow { 1000000 < formula.vars → All (All (IsWithin 2000000)) tree }
         requires workers { (1 ≤ workers) × (workers ≤ 64) }
         ensures { IfOk result (λ c. (d : Definitions) × AreOf formula d × (d.wanted ≡ defs) × (c ≡ record (new_coordinator formula tree limit workers session) { definitions = d })) }
     {
@@ -194,6 +200,7 @@ impl Coordinator {
         session: u64,
     ) -> Result<Coordinator, AllocError>
         requires inside { (B : Cnf) → IsBaseWith opened.formula opened.definitions.wanted B → All (IsOverBase B) tree }
+        requires narrow { 1000000 < opened.formula.vars → All (All (IsWithin 2000000)) tree }
         requires workers { (1 ≤ workers) × (workers ≤ 64) }
         ensures { IfOk result (λ c. c ≡ record (new_coordinator opened.formula tree limit workers session) { definitions = opened.definitions }) }
     {

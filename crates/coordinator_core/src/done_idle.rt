@@ -25,7 +25,8 @@ pub(crate) enum DoneClass {
 }
 
 impl Coordinator {
-    /// Returns the class of a Done from this attempt.
+    /// Returns the class of a Done frame from this attempt: of no present job, the first answer of
+    /// the job, a repeated one, or one of another incarnation of the worker.
     pub(crate) fn classify_done(&self, attempt: &Attempt) -> DoneClass
         ensures { IsDoneClass self.now attempt.now result }
     {
@@ -45,7 +46,8 @@ impl Coordinator {
         }
     }
 
-    /// Delivers a Done. If another incarnation of the worker has sent a Done of the job before, the job's leaf is opened again.
+    /// Takes a Done frame. If another incarnation of the worker has sent a Done of the job before,
+    /// that evidence is lost with it, so the job's leaf is opened again.
     pub(crate) fn deliver_done(&mut self, attempt: &Attempt, ending: &Ending) -> Reaction
         ensures { DeliversDone self.old attempt.now ending.now result self.new }
     {
@@ -60,7 +62,8 @@ impl Coordinator {
         }
     }
 
-    /// Takes the first Done of a job: if the search met its limit, splits the leaf; if evidence is announced, fixes what was announced.
+    /// Takes the first Done of a job: splits the leaf if the search met its limit, or else fixes
+    /// the evidence that it announces, whose bytes are to come.
     fn answer(&mut self, attempt: &Attempt, ending: &Ending) -> Reaction
         requires { (j : Job) × IsAwaited self.old attempt.now.session attempt.now.job attempt.now.worker j × (j.fixed ≡ None) }
         ensures { (j : Job) → IsAwaited self.old attempt.now.session attempt.now.job attempt.now.worker j → j.fixed ≡ None → DeliversFirstDone self.old attempt.now j ending.now result self.new }
@@ -95,8 +98,8 @@ impl Coordinator {
         }
     }
 
-    /// Tells whether what is fixed of the worker's job came from another incarnation than this one. False if nothing is fixed, or if the
-    /// coordinator is not deciding.
+    /// Tells whether the evidence of the worker's job was announced by another incarnation than
+    /// this one. False if none was announced, or if the coordinator is not deciding.
     fn is_stale(&self, worker: WorkerNumber, incarnation: u64) -> bool
         ensures { IsTrue result ↔ ((j : Job) × IsStale self.now worker incarnation j) }
     {
@@ -112,8 +115,9 @@ impl Coordinator {
         }
     }
 
-    /// Delivers an Idle. If what is fixed of the worker's job came from another incarnation, the job's leaf is opened again; else the Idle
-    /// is ignored.
+    /// Takes an Idle frame. An Idle of another incarnation than the one that announced the job's
+    /// evidence says that the worker has restarted, so the job's leaf is opened again; else the
+    /// Idle is ignored.
     pub(crate) fn deliver_idle(&mut self, worker: WorkerNumber, incarnation: u64) -> Reaction
         ensures { DeliversIdle self.old worker incarnation result self.new }
     {

@@ -22,7 +22,8 @@ use packed_text::PackedText;
 use proof_join::{JoinFault, Joiner};
 use std::alloc::Global;
 
-/// Returns the index of the next leaf to be joined, from 0; this is the number of leaves already joined.
+/// Returns the index of the leaf whose fragment is joined next, from 0: the number of leaves that
+/// are joined.
 fn place_of(front: &Option<Joiner>) -> usize
     ensures { result ≡ count_of front.now }
 {
@@ -76,7 +77,7 @@ pub(crate) fn join_rest(
     front?.finish(formula, preamble, tree, fragments)
 }
 
-/// Returns the fragment of the leaf at index `place`.
+/// Returns the fragment of the leaf at index `place`. A function of its own, for its contract.
 fn text_at(fragments: &[PackedText], place: usize) -> &PackedText
     requires { place < length fragments.now }
     ensures { result.now ≡ slice_index_or fragments.now place [] }
@@ -94,7 +95,7 @@ fn join_next(
     requires inside { (place < length tree.now) × (place < length fragments.now) }
     requires next { IfOk front (λ j. j.count ≡ place) }
     requires closes { (F : Cnf) × (pairs : List Pair) × Closes (base_with F pairs) (slice_index_or tree.now place []) (slice_index_or fragments.now place [])
-        × IfOk front (λ j. j.base ≡ length (base_with F pairs).clauses) }
+        × IfOk front (λ j. j.base ≡ length (base_with F pairs).clauses) × ((base_with F pairs).vars ≤ 199999999) }
     ensures { (F : Cnf) (pairs : List Pair) (leaves : List LeafState) → slice_get leaves place ≡ Some Closed → IfOk front (IsFrontOfTree F pairs tree.now leaves fragments.now)
         → IfOk result (IsFrontOfTree F pairs tree.now leaves fragments.now) }
 {

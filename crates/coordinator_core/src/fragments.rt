@@ -67,8 +67,9 @@ impl Coordinator {
         }
     }
 
-    /// Closes the leaf of the worker's job: moves the fragment to the table of leaves. After the last leaf all fragments are joined; if
-    /// memory for that is refused, the fragment is moved back.
+    /// Closes the leaf of the worker's job: moves the fragment to the table of leaves. After the
+    /// last leaf all fragments are joined to the proof; if memory for that is refused, the fragment
+    /// is moved back, so that nothing changes.
     fn close(&mut self, worker: WorkerNumber) -> Reaction
         requires closes { (j : Job) × (x : Fixed) × IsFixed self.old worker j x × Closes (coordinator_base self.old) (cube_at self.old j.leaf) x.evidence.bytes }
         ensures { (j : Job) (x : Fixed) → IsFixed self.old worker j x → UnlessNoMemory self.old result self.new (CompletesFragment self.old worker j x.evidence.bytes result self.new) }

@@ -38,7 +38,7 @@ impl Coordinator {
         }
     }
 
-    /// Makes the coordinator stuck.
+    /// Makes the coordinator stuck: no verdict will be found until a restart.
     pub(crate) fn give_up(&mut self)
         requires { IsDeciding self.old }
         ensures { self.new ≡ record self.old { stuck = true } }
@@ -46,7 +46,8 @@ impl Coordinator {
         self.stuck = true;
     }
 
-    /// Holds this verdict, which is right for the formula.
+    /// Holds this verdict, which is right for the formula. It is handed out to the workers from
+    /// then on.
     pub(crate) fn decide(&mut self, verdict: Verdict)
         requires deciding { IsDeciding self.old }
         requires right { Right self.old.formula verdict }

@@ -32,7 +32,8 @@ impl Coordinator {
         }
     }
 
-    /// Tells whether `count` bytes from `offset` on follow the bytes so far of the evidence that the attempt announced.
+    /// Tells whether a Piece frame of this attempt brings the next bytes: `count` bytes from
+    /// `offset` on, which follow those received so far of the evidence that the attempt announced.
     fn comes_next(&self, attempt: &Attempt, offset: u32, count: usize) -> bool
         requires { count ≤ 4000 }
         ensures { (more : List ℕ) → length more ≡ count → IsTrue result ↔ ((j : Job) × (x : Fixed) × IsNextPiece self.now attempt.now offset more j x) }
@@ -48,7 +49,8 @@ impl Coordinator {
         }
     }
 
-    /// Sets what is fixed of the worker's job; `None` if nothing is.
+    /// Sets what is fixed of the worker's job, the incarnation and the announced evidence; `None`
+    /// takes it back.
     pub(crate) fn fix(&mut self, worker: WorkerNumber, fixed: Option<Fixed>)
         requires fits { FitsFixed fixed }
         ensures { (j : Job) → job_at self.old worker ≡ Some j → self.new ≡ with_job self.old worker (Some (record j { fixed = fixed })) }
@@ -73,7 +75,8 @@ impl Coordinator {
         grown
     }
 
-    /// Truncates the evidence of the worker's job to its first `count` bytes.
+    /// Truncates the evidence of the worker's job to its first `count` bytes, to undo an append if
+    /// memory is refused after it.
     fn shorten(&mut self, worker: WorkerNumber, count: usize)
         ensures { (j : Job) → job_at self.old worker ≡ Some j → self.new ≡ with_job self.old worker (Some (record j { fixed = fixed_cut_to count j.fixed })) }
     {
@@ -108,7 +111,8 @@ impl Coordinator {
         }
     }
 
-    /// Returns the answer that the evidence of the worker's job is for; `None` if the evidence is incomplete.
+    /// Returns which answer the complete evidence of the worker's job is for; `None` if the
+    /// evidence is incomplete.
     fn whole(&self, worker: WorkerNumber) -> Option<Answer>
         ensures { (j : Job) (x : Fixed) → IsFixed self.now worker j x → IsWhole x result }
     {

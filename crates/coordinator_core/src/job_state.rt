@@ -42,7 +42,8 @@ impl Job {
         }
     }
 
-    /// Returns the answer that the evidence is for; `None` if the evidence is incomplete or nothing is fixed.
+    /// Returns which answer the complete evidence is for; `None` if bytes are missing, or no
+    /// evidence was announced.
     pub(crate) fn whole(&self) -> Option<Answer>
         ensures { (x : Fixed) → self.now.fixed ≡ Some x → IsWhole x result }
     {
@@ -63,7 +64,8 @@ impl Job {
         }
     }
 
-    /// Truncates the evidence to its first `count` bytes.
+    /// Truncates the evidence to its first `count` bytes, to undo an append if memory is refused
+    /// after it.
     pub(crate) fn shorten(&mut self, count: usize)
         ensures { self.new ≡ record self.old { fixed = fixed_cut_to count self.old.fixed } }
     {
@@ -81,7 +83,8 @@ impl Job {
         }
     }
 
-    /// Moves the bytes out of the evidence, which is then empty. It takes no memory.
+    /// Moves the bytes out of the evidence into the table of leaves, without a copy. The evidence
+    /// is empty then. It takes no memory.
     pub(crate) fn take_bytes(&mut self, alloc: Global) -> PackedText
         ensures leaf { self.new.leaf ≡ self.old.leaf }
         ensures bytes { (x : Fixed) → self.old.fixed ≡ Some x → result ≡ x.evidence.bytes }
@@ -94,7 +97,7 @@ impl Job {
         }
     }
 
-    /// Replaces the bytes of the evidence.
+    /// Puts bytes back into the evidence, if closing the leaf is undone.
     pub(crate) fn give_bytes(&mut self, bytes: PackedText)
         ensures { self.new ≡ job_with_bytes self.old bytes }
     {

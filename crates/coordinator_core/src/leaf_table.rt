@@ -48,7 +48,7 @@ impl Model for LeafTable {
     ghost invariant = { λ t. IsLeafTable t.states.items t.fragments.items t.unclosed t.from };
 }
 
-/// Makes `count` empty fragments.
+/// Makes `count` empty fragments, one for each leaf.
 #[tactic(auto, using(crate::proofs::TableLemmas::rows))]
 fn no_fragments(alloc: Global, count: usize) -> Result<Vec<PackedText>, AllocError>
     ensures { IfOk result (λ v. v.items ≡ replicate count []) }
@@ -73,7 +73,8 @@ fn open_from(states: &[LeafState], from: usize) -> Option<usize>
     None
 }
 
-/// Replaces the state of a leaf by two open ones, those of its branches. There is room for one more entry.
+/// Replaces the state of a leaf that is split by two open ones, those of its branches. The caller
+/// has reserved one more entry.
 fn open_branches(states: &mut Vec<LeafState>, leaf: usize)
     requires inside { leaf < vec_len states.old }
     requires room { vec_len states.old < vec_capacity states.old }
@@ -83,7 +84,8 @@ fn open_branches(states: &mut Vec<LeafState>, leaf: usize)
     states.insert(leaf, LeafState::Open).unwrap();
 }
 
-/// Replaces the fragment of a leaf by two empty ones. There is room for one more entry.
+/// Replaces the fragment of a leaf that is split by two empty ones, those of its branches. The
+/// caller has reserved one more entry.
 fn empty_branches(alloc: Global, fragments: &mut Vec<PackedText>, leaf: usize)
     requires inside { leaf < vec_len fragments.old }
     requires room { vec_len fragments.old < vec_capacity fragments.old }
@@ -143,7 +145,8 @@ impl LeafTable {
         &self.fragments
     }
 
-    /// Gives the leftmost open leaf, which has index `leaf`, to a worker.
+    /// Notes that the leftmost open leaf, which has index `leaf`, is given to a worker. Later
+    /// searches for an open leaf begin there.
     pub(crate) fn give(&mut self, leaf: usize, worker: WorkerNumber)
         requires { position is_open self.old.states ≡ Some leaf }
         ensures { self.new ≡ record self.old { states = slice_set self.old.states leaf (GivenTo worker) } }
@@ -152,7 +155,7 @@ impl LeafTable {
         self.from = leaf;
     }
 
-    /// Opens a leaf that is not closed.
+    /// Opens a leaf that is not closed, so that it is given to a worker again.
     pub(crate) fn open(&mut self, leaf: usize)
         requires inside { leaf < length self.old.states }
         requires unclosed { slice_index_or self.old.states leaf Closed ≢ Closed }

@@ -19,7 +19,7 @@ mod leaf_table;
 mod poll;
 mod progress;
 mod split;
-mod want;
+mod want_delivery;
 mod worker_slots;
 
 pub use coordinator::Coordinator;

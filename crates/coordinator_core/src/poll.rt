@@ -15,7 +15,7 @@ ghost use Rattle.coordinator_core.specs.declared.job_state.Job.{Job};
 
 use crate::coordinator::Coordinator;
 use crate::job_state::Job;
-use crate::want::length_of;
+use crate::want_delivery::length_of;
 use evidence::JobName;
 use frames::{Answer, Chunk, Cube, Finding, Frame, ProofLength, WorkerNumber};
 use lrat_check::Verdict;
@@ -28,7 +28,7 @@ fn value_bytes(alloc: Global, values: &[bool]) -> Result<Vec<u8>, AllocError>
     values.iter().map(|v| u8::from(*v)).collect(alloc)
 }
 
-/// Returns at most 4,000 of the values, from index `offset` on.
+/// Returns the values that one Part frame carries: at most 4,000, from index `offset` on.
 fn part_of(values: &[bool], offset: usize) -> &[bool]
     requires { offset < length values.now }
     ensures part { result.now ≡ take chunk (drop offset values.now) }
@@ -40,7 +40,8 @@ fn part_of(values: &[bool], offset: usize) -> &[bool]
     part
 }
 
-/// Returns at most 4,000 bytes of the evidence of a verdict, from `offset` on. There is no such byte without a verdict.
+/// Returns the bytes of a verdict's evidence that one Part frame carries: at most 4,000, from
+/// `offset` on. Without a verdict there is no such byte, and no call.
 fn part(alloc: Global, verdict: &Verdict, offset: u32) -> Result<Chunk, AllocError>
     requires { offset < length (bytes_in verdict.now) }
     ensures { IfOk result (λ c. c ≡ take chunk (drop offset (bytes_in verdict.now))) }
@@ -137,7 +138,8 @@ impl Coordinator {
         }
     }
 
-    /// Returns Fetch for the next bytes of the job's evidence if that was announced, or the job's Task again.
+    /// Returns the frame to a worker that has a job: Fetch for the next bytes of its evidence if
+    /// that was announced, or else its Task again, since the first one may be lost.
     fn frame_of(&self, worker: WorkerNumber, job: &Job) -> Result<Frame, AllocError>
         requires { job_at self.now worker ≡ Some job.now }
         ensures { IsPollResult self.now (fixed_poll self.now worker job.now job.now.fixed) result self.now }
@@ -159,7 +161,8 @@ impl Coordinator {
         }
     }
 
-    /// Returns the Task of the job with this number and leaf.
+    /// Makes the Task frame of the job with this number and leaf: the leaf's cube, and the limit of
+    /// lemmas.
     fn task(&self, number: u64, leaf: usize) -> Result<Frame, AllocError>
         requires { leaf < length self.now.tree }
         ensures given { IfOk result (λ f. f ≡ Task self.now.session number self.now.limit (cube_at self.now leaf)) }

@@ -12,11 +12,12 @@ use crate::coordinator::Coordinator;
 use crate::job_state::Job;
 use cube_split::{Chooser, Preamble};
 use dimacs::{Formula, Lit, Var};
-use frames::WorkerNumber;
+use frames::{Cube, WorkerNumber};
 use lrat_check::Reaction;
 use std::alloc::{AllocError, Global};
 
-/// Chooses the variable on which a cube is split; `None` if the split rule chooses none. Makes the rule's tables if there are none yet.
+/// Chooses the variable on which a cube is split; `None` if the split rule chooses none. The rule's
+/// tables are made at the first call, and kept.
 fn choose(
     alloc: Global,
     tables: &mut Option<Chooser>,
@@ -38,7 +39,8 @@ fn choose(
     Ok(choice)
 }
 
-/// Returns the index of a leaf after the leaf at index `leaf` was split. Indices are counted from 0.
+/// Returns the index of a leaf after the leaf at index `leaf` was split into two, which shifts all
+/// leaves after it by one. Indices are counted from 0.
 fn shifted_place(place: usize, leaf: usize) -> usize
     requires { place < 65536 }
     ensures { result ≡ shifted leaf place }
@@ -46,7 +48,8 @@ fn shifted_place(place: usize, leaf: usize) -> usize
     if place > leaf { place + 1 } else { place }
 }
 
-/// Returns a job of another leaf with the index that its leaf has after `leaf` was split; `None` stays `None`.
+/// Returns a job with the index that its leaf has after another leaf, `leaf`, was split; `None`
+/// stays `None`.
 fn shift_job(job: Option<Job>, leaf: usize) -> Option<Job>
     requires { (j : Job) → job ≡ Some j → j.leaf < 65536 }
     ensures { result ≡ shifted_job leaf job }
@@ -99,12 +102,17 @@ impl Coordinator {
         }
     }
 
-    /// Tells whether a split of the leaf stays within the limits on trees: fewer than 65,536 leaves, and a cube of fewer than 64 literals.
+    /// Tells whether a split of the leaf stays within the limits: fewer than 65,536 leaves, a cube of
+    /// fewer than 64 literals, and a base of at most 2,000,000 variables, as many as a frame may
+    /// have. The contract alone names `worker`.
     fn may_split(&self, worker: WorkerNumber, leaf: usize) -> bool
         requires { (j : Job) × (job_at self.now worker ≡ Some j) × (j.leaf ≡ leaf) }
         ensures { IsTrue result ↔ MaySplit self.now leaf }
     {
-        self.tree.leaves() < 65536 && self.tree.cube(leaf).len() < 64
+        self.tree.leaves() < 65536
+            && self.tree.cube(leaf).len() < 64
+            && self.formula.vars() as usize + self.preamble.pairs().len()
+                <= Cube::VARIABLES as usize
     }
 
     /// Chooses the variable on which the leaf is split; `None` if the split rule chooses none. Nothing that a contract names changes.

@@ -32,7 +32,7 @@ impl Coordinator {
         }
     }
 
-    /// Takes the job out of a worker's slot; `None` if there is none.
+    /// Takes the job out of a worker's slot, to change it and put it back; `None` if there is none.
     pub(crate) fn take_job(&mut self, worker: WorkerNumber) -> Option<Job>
         ensures job { result ≡ job_at self.old worker }
         ensures known { OnSome result (IsWorker self.new worker) }
@@ -56,7 +56,8 @@ impl Coordinator {
         self.jobs[slot] = Some(job);
     }
 
-    /// Delivers that the connection to a worker is lost: the leaf of its job, if it has one, is opened again. It takes no memory.
+    /// Notes that the connection to a worker is lost: the leaf of its job, if it has one, is opened
+    /// again. It takes no memory.
     pub fn lost(&mut self, worker: WorkerNumber)
         ensures step { CoordinatorStep self.old (Lost worker) Silent self.new }
     {

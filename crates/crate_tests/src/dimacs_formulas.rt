@@ -1,7 +1,8 @@
 //! DIMACS texts, and formulas that are built by hand.
 
 use dimacs::{
-    Assignment, Base, Builder, Extension, Formula, Kind, Lit, Var, read, satisfies, write,
+    Assignment, Base, Builder, Extension, Formula, Kind, Limits, Lit, Var, read, read_within,
+    satisfies, write,
 };
 use std::alloc::Global;
 use std::process::Abort;
@@ -66,6 +67,30 @@ const COMMENTS: &[Row] = &[
         Ok(2),
     ),
 ];
+
+/// Texts that are read within the large limits.
+const LARGE: &[Row] = &[
+    (b"p cnf 1000001 0", Ok(0)),
+    (b"p cnf 1000001 1\n-1000001 0", Ok(1)),
+    (
+        b"p cnf 1000001 1\n1000002 0",
+        Err((Kind::VariableAboveHeader, 2)),
+    ),
+    (b"p cnf 99999999 1\n99999999 0", Ok(1)),
+    (b"p cnf 100000000 4 x", Err((Kind::AboveLimit, 1))),
+    (b"p cnf 1 100000000 x", Err((Kind::AboveLimit, 1))),
+];
+
+#[test]
+fn large_limits_take_more(rt: HostRuntime) {
+    for (text, want) in LARGE {
+        let found = match read_within(rt.alloc(), Limits::large(), *text) {
+            Ok(formula) => Ok(formula.len()),
+            Err(fault) => Err((fault.kind, fault.line)),
+        };
+        assert_eq!(&rt; found, *want);
+    }
+}
 
 #[test]
 fn the_first_wrong_token_decides_from_left_to_right(rt: HostRuntime) {

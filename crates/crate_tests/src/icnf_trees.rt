@@ -1,6 +1,7 @@
 //! Formulas with cubes, and the trees whose leaves the cubes are.
 
-use icnf::{TreeBuilder, read, write};
+use dimacs::Limits;
+use icnf::{TreeBuilder, read, read_within, write};
 use std::alloc::Global;
 use std::process::Abort;
 use std::test::Fail;
@@ -8,16 +9,16 @@ use std::test::Fail;
 /// A text, and the number of its leaves, or its fault's number and line.
 type Row = (&'static [u8], Result<usize, (u8, u64)>);
 
-fn outcome(alloc: Global, text: &[u8]) -> Result<usize, (u8, u64)> {
-    match read(alloc, text) {
+fn outcome(alloc: Global, limits: Limits, text: &[u8]) -> Result<usize, (u8, u64)> {
+    match read_within(alloc, limits, text) {
         Ok((_, tree)) => Ok(tree.leaves()),
         Err(fault) => Err((fault.number(), fault.line)),
     }
 }
 
-fn all_are_read(rt: &impl Abort, alloc: Global, rows: &[Row]) {
+fn all_are_read(rt: &impl Abort, alloc: Global, limits: Limits, rows: &[Row]) {
     for (text, want) in rows {
-        assert_eq!(rt; outcome(alloc, *text), *want);
+        assert_eq!(rt; outcome(alloc, limits, *text), *want);
     }
 }
 
@@ -59,11 +60,23 @@ const TOKENS: &[Row] = &[
     (b"p inccnf\n1\n\n", Err((5, 4))),
 ];
 
+/// Texts that are read within the large limits.
+const LARGE: &[Row] = &[
+    (b"p inccnf\n1000001 0\na 1000001 0\na -1000001 0\n", Ok(2)),
+    (b"p inccnf\n99999999 0\na 0\n", Ok(1)),
+    (b"p inccnf\n100000000", Err((8, 2))),
+];
+
+#[test]
+fn large_limits_take_more(rt: HostRuntime) {
+    all_are_read(&rt, rt.alloc(), Limits::large(), LARGE);
+}
+
 #[test]
 fn texts_are_trees_or_their_first_wrong_token_decides(rt: HostRuntime) {
-    all_are_read(&rt, rt.alloc(), HEADERS);
-    all_are_read(&rt, rt.alloc(), CUBES);
-    all_are_read(&rt, rt.alloc(), TOKENS);
+    all_are_read(&rt, rt.alloc(), Limits::written(), HEADERS);
+    all_are_read(&rt, rt.alloc(), Limits::written(), CUBES);
+    all_are_read(&rt, rt.alloc(), Limits::written(), TOKENS);
 }
 
 #[test]

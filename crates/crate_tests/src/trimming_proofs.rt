@@ -9,7 +9,8 @@ use std::process::Abort;
 /// The four clauses over two variables, which nothing satisfies, and one more that holds a third variable.
 const FIVE: &[u8] = b"p cnf 3 5\n1 2 0\n-1 2 0\n1 -2 0\n-1 -2 0\n3 -1 0\n";
 
-/// Once clause 5 is deleted, 6 and 8 are RAT, and 9 has them as candidates. Lemma 8 is needed as a candidate alone, and 7 as its hint alone.
+/// Once clause 5 is deleted, 6 and 8 are RAT, and 9 has them as candidates. Lemma 8 is needed as a candidate alone, and 7 as its hint
+/// alone.
 const LONG: &[u8] =
     b"5 d 5 0\n6 -3 1 0 0\n7 2 0 1 2 0\n8 -3 2 0 0\n9 3 -1 0 -6 -8 7 0\n10 3 0 9 1 3 0\n\
 11  1 0 10 6 0\n11 d 7 8 9 0\n13 0 11 2 4 0\n13 d 1 0\n";

@@ -128,7 +128,7 @@ module _ {P : Type 0} (is_ready : P → Clauses → TrailValue → Type 0) (atta
   same : y.lemmas.items ≡ s.search.lemmas.items
   same = lemmas ∙ ap (λ (z : Search P). z.lemmas.items) is
 
-  pub grown_ready : (vars : ℕ) → IsSteady is_ready attached y.state → AreNoted (live_of y.state.arena) y.units.numbers.items → y.state.trail.vars ≡ vars → vars ≤ 1000000 → AreStamped vars marks
+  pub grown_ready : (vars : ℕ) → IsSteady is_ready attached y.state → AreNoted (live_of y.state.arena) y.units.numbers.items → y.state.trail.vars ≡ vars → vars ≤ 99999999 → AreStamped vars marks
       → IsReady is_ready attached s → IsReady is_ready attached u
   grown_ready vars steady noted v few stamped r = record {
     steady = steady;

@@ -10,7 +10,7 @@ use Rattle.dimacs.proofs.Members.{Contains-head, Contains-cons}
 use Rattle.decide_heap.specs.Decisions.{Decisions, is_in}
 use Rattle.watches.specs.Trails.{TrailValue, holds}
 use Rattle.watches.specs.declared.trail.Assigned.{Assigned}
-use Rattle.cube_solve.specs.inner.DecisionOrder.{IsOrder, IsOrderBut, AreAllIn, ArePutBack, AreWaiting}
+use Rattle.cube_solve.specs.inner.DecisionOrder.{IsOrder, IsOrderBut, AreAllIn, ArePutBack, HasSameMembers}
 use Rattle.cube_solve.specs.inner.State.{IsTotal}
 use Rattle.cube_solve.specs.inner.Steps.{IsUnassigned}
 
@@ -86,7 +86,7 @@ order_cut t u level old new v g p h = record {
     at l (e, i, s) = subst (λ m. is_in new (var_of m) ≡ true) s
         (p.back e (subst (λ es. Contains es e) (sym g.1) (Contains-append_right u.entries g.0 e i)) (All-contains (λ x. level < x.level) g.0 e g.2 i))
 
-pub order_same : (t : TrailValue) (old new : Decisions) → AreWaiting old new → IsOrder t old → IsOrder t new
+pub order_same : (t : TrailValue) (old new : Decisions) → HasSameMembers old new → IsOrder t old → IsOrder t new
 order_same t old new s h = record {
   vars = s.vars ∙ h.vars;
   waits = λ l f. ap (λ ms. get_or ms (var_of l - 1) false) s.members ∙ h.waits l f;

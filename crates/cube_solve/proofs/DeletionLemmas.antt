@@ -14,21 +14,21 @@ use Rattle.dimacs.specs.logic.ClauseMap.{ClauseMap, Live, live_in, map_of}
 use Rattle.dimacs.specs.logic.Literal.{Clause}
 use Rattle.dimacs.proofs.Members.{Contains-head, Contains-cons, Contains-cons_cases, Contains-nil}
 use Rattle.clause_arena.specs.Clauses.{Clauses, live_of}
-use Rattle.lrat_text.specs.Grammar.{LineSpells}
-use Rattle.lrat_text.specs.Log.{additions}
+use Rattle.lrat_text.specs.Grammar.{LineSpellsWithin}
+use Rattle.lrat_text.specs.Log.{additions, log_top}
 use Rattle.lrat_text.specs.Proof.{without}
 use Rattle.lrat_text.specs.Runs.{after_steps}
 use Rattle.lrat_text.specs.WrittenLine.{line_text}
 use Rattle.lrat_text.specs.declared.step.Step.{Step}
 use Rattle.lrat_text.specs.declared.step.Step.TheVariants.{Add, Delete}
 use Rattle.lrat_text.proofs.ClauseMapLemmas.{apart_test, none_some, numbered_between, numbered_at}
-use Rattle.lrat_text.proofs.LineLemmas.{written_spells, written_one_line}
+use Rattle.lrat_text.proofs.LineLemmas.{spells_step_more, written_spells, written_one_line}
 use Rattle.watches.specs.Trails.{TrailValue}
 use Rattle.watches.proofs.TrailLemmas.{head_alone}
 use Rattle.cube_solve.specs.inner.Reduction.{AreRising, AreLemmas, AreAllExcept, Reduces, MayReduce}
 use Rattle.cube_solve.specs.inner.LearntLog.{IsLearnt, IsSearch}
 use Rattle.cube_solve.specs.inner.Twins.{AreTwins, AreLinked}
-use Rattle.cube_solve.proofs.LogLemmas.{spells_push, log_push, fresh_push, after_push, top_push}
+use Rattle.cube_solve.proofs.LogLemmas.{spells_push, written_in_log, log_push, fresh_push, after_push, top_push}
 
 -- ---- members of a list of numbers
 pub any_from : (xs : List ℕ) (n : ℕ) → Contains xs n → list_any (eqb n) xs ≡ true
@@ -155,8 +155,9 @@ module _ (B : Cnf) (n : ℕ) (old new : Live) (before text : List ℕ) (l : IsLe
   pub learnt_less : IsLearnt B text n new
   learnt_less = record {
     steps = l.steps ++ step ∷ [];
-    spells = subst (λ t. LineSpells t (l.steps ++ step ∷ [])) (sym f.written)
-        (spells_push before l.steps (line_text f.top step) step l.spells (written_one_line f.top step f.numbered f.limits) (written_spells f.top step f.numbered f.limits));
+    spells = subst (λ t. LineSpellsWithin (log_top B) t (l.steps ++ step ∷ [])) (sym f.written)
+        (spells_push (log_top B) before l.steps (line_text f.top step) step l.spells (written_one_line f.top step f.numbered f.limits)
+        (spells_step_more 2000000 (log_top B) (written_in_log B) (line_text f.top step) step (written_spells f.top step f.numbered f.limits)));
     log = log_push (length B.clauses) (map_of B) (length B.clauses) l.steps step l.log (
       All-weaker (λ k. length B.clauses + 1 ≤ k) (λ k. length B.clauses < k) (λ k h. omega arith) f.ids (f.lemmas).behind,
       (λ i d b. let c = live_there (length B.clauses + 1) f.ids f.lemmas (get_or f.ids i d) (Contains-get_or f.ids i d b) in some_is (get M (get_or f.ids i d)) c.0 c.1),

@@ -2,15 +2,16 @@
 use Rattle.std.proofs.Common.{ℕ, ◌+◌, ◌^◌, ◌<◌, ◌≤◌, Bool, List, arith}
 use Rattle.std.proofs.Math.Nat.{pow-le-pow_right}
 use Rattle.dimacs.specs.logic.Cnf.{Cnf}
-use Rattle.lrat_text.specs.Log.{Cube, Closes, IsHonest}
-use Rattle.lrat_text.proofs.CountingLemmas.{few_lemmas}
+use Rattle.lrat_text.specs.Log.{Cube, Closes, IsHonest, log_top}
+use Rattle.lrat_text.proofs.CountingLemmas.{few_lemmas_within}
 use Rattle.cube_solve.specs.Conflicts.{MeetsConflict}
 use Rattle.cube_solve.specs.Outcome.{IsModel, IsBrief, IsFresh, IsRightOutcome, allowed}
 use Rattle.cube_solve.specs.declared.outcome.Outcome.TheVariants as outcome
 
 decides : (B : Cnf) (most : ℕ) (text : List ℕ) → IsHonest B (allowed most) text → IsFresh B text → B.vars ≤ 6 → 3 ^ B.vars < most → ⊥
 decides B most text honest fresh six more =
-    let r = few_lemmas B (allowed most) text fresh.steps six honest fresh.spells fresh.fresh in
+    let few : log_top B < 2 ^ 48 = omega arith in
+    let r = few_lemmas_within (log_top B) few B (allowed most) text fresh.steps six honest fresh.spells fresh.fresh in
     let low : 3 ^ B.vars ≤ 3 ^ 6 = pow-le-pow_right (omega arith) six in
     omega arith
 

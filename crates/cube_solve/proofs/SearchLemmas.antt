@@ -12,14 +12,14 @@ use Rattle.dimacs.specs.logic.Propagation.{IsFalse}
 use Rattle.dimacs.proofs.LiteralLemmas.{negation_apart, var_of-negation}
 use Rattle.dimacs.proofs.Members.{Contains-head, Contains-cons, Contains-cons_cases, Contains-nil}
 use Rattle.clause_arena.specs.Clauses.{Clauses, live_of}
-use Rattle.lrat_text.specs.Grammar.{LineSpells, IsClauseNumber}
-use Rattle.lrat_text.specs.Log.{Cube, Closes, IsHonest}
+use Rattle.lrat_text.specs.Grammar.{LineSpellsWithin, IsClauseNumber}
+use Rattle.lrat_text.specs.Log.{Cube, Closes, IsHonest, log_top}
 use Rattle.lrat_text.specs.Runs.{after_steps, top_of}
 use Rattle.lrat_text.specs.WrittenLine.{line_text}
 use Rattle.lrat_text.specs.declared.step.Step.{Step}
 use Rattle.lrat_text.specs.declared.step.Step.TheVariants.{Add}
 use Rattle.lrat_text.proofs.ClauseMapLemmas.{not_in, numbered_between, numbered_at}
-use Rattle.lrat_text.proofs.LineLemmas.{written_spells, written_one_line}
+use Rattle.lrat_text.proofs.LineLemmas.{spells_step_more, written_spells_within, written_one_line_within}
 use Rattle.watches.specs.declared.trail.Assigned.{Assigned}
 use Rattle.watches.specs.Law.{NoneFalseOrUnit, SameUpToOrder, NeitherFalseNorUnit, IsConflict}
 use Rattle.watches.specs.Trails.{TrailValue, IsTrailValue, holds, present, up_to}
@@ -37,7 +37,7 @@ use Rattle.cube_solve.proofs.AssumptionLemmas.{assuming_all, assuming_up_to, ass
 use Rattle.cube_solve.proofs.BuiltLemmas.{sound, built_same, decision_above}
 use Rattle.cube_solve.proofs.ClauseLemmas.{same_back, same_forth, twins_trans, linked_same, linked_more, linked_turned}
 use Rattle.cube_solve.proofs.LevelCutLemmas.{quiet_fewer}
-use Rattle.cube_solve.proofs.LogLemmas.{spells_push, log_push, fresh_push, additions_push, after_push, top_push, rup_same, new_same}
+use Rattle.cube_solve.proofs.LogLemmas.{spells_push, vars_in_log, log_push, fresh_push, additions_push, after_push, top_push, rup_same, new_same}
 use Rattle.cube_solve.proofs.MapLemmas.{map_added}
 
 -- ---- the cube
@@ -73,14 +73,18 @@ pub learnt_none : (B : Cnf) (live : Live) → AreLinked (live_in (map_of B)) liv
 learnt_none B live h = record { steps = []; spells = refl; log = tt; count = refl; fresh = tt; top = omega arith; linked = h }
 
 module _ (B : Cnf) (vars n id : ℕ) (live : Live) (lits : Clause) (before text : List ℕ)
-    (is : id ≡ length B.clauses + 1 + n) (number : IsClauseNumber id)
+    (same : vars ≡ B.vars) (is : id ≡ length B.clauses + 1 + n) (number : IsClauseNumber id)
     (l : IsLearnt B before n live) (w : IsWritten live vars id lits before text) where
   abbrev pub step : Step
   step = Add id lits w.hints []
 
-  pub spelled : LineSpells text (l.steps ++ step ∷ [])
-  spelled = subst (λ t. LineSpells t (l.steps ++ step ∷ [])) (sym w.text)
-      (spells_push before l.steps (line_text id step) step l.spells (written_one_line id step number w.limits) (written_spells id step number w.limits))
+  below_numbers : vars < 2 ^ 48
+  below_numbers = (let few = w.few in omega arith)
+
+  pub spelled : LineSpellsWithin (log_top B) text (l.steps ++ step ∷ [])
+  spelled = subst (λ t. LineSpellsWithin (log_top B) t (l.steps ++ step ∷ [])) (sym w.text)
+      (spells_push (log_top B) before l.steps (line_text id step) step l.spells (written_one_line_within vars below_numbers id step number w.limits)
+      (spells_step_more vars (log_top B) (vars_in_log B vars same) (line_text id step) step (written_spells_within vars below_numbers id step number w.limits)))
 
   next : id ≡ top_of (length B.clauses) l.steps + 1
   next = let t = l.top in omega arith
@@ -102,13 +106,13 @@ pub learnt_more : (B : Cnf) (vars n id : ℕ) (old new : Live) (before text : Li
     → IsLearnt B before n old → Learns vars id old new before text → IsLearnt B text (n + 1) new
 learnt_more B vars n id old new before text v is number below l g =
     let M : ClauseMap = after_steps (map_of B) l.steps in
-    let s : Step = step B vars n id old g.lits before text is number l g.written in
+    let s : Step = step B vars n id old g.lits before text v is number l g.written in
     let fresh : get M id ≡ None = not_in M id (λ C h. let d = l.linked.forth id C h in let b = below id d.0 d.1 in let up = b.1 in omega arith) in
     record {
       steps = l.steps ++ s ∷ [];
-      spells = spelled B vars n id old g.lits before text is number l g.written;
-      log = logged B vars n id old g.lits before text is number l g.written;
-      count = counted B vars n id old g.lits before text is number l g.written;
+      spells = spelled B vars n id old g.lits before text v is number l g.written;
+      log = logged B vars n id old g.lits before text v is number l g.written;
+      count = counted B vars n id old g.lits before text v is number l g.written;
       fresh = fresh_push B (map_of B) l.steps s l.fresh (subst (λ k. All (IsWithin k) g.lits) v (g.written).within, new_same (live_in M) old (l.linked).forth g.lits g.is_new);
       top = top_push (length B.clauses) l.steps s ∙ (let e : id ≡ length B.clauses + (n + 1) = omega arith in e);
       linked = subst (λ N. AreLinked (live_in N) new) (sym (after_push (map_of B) l.steps s))

@@ -240,7 +240,7 @@ module _ {P : Type 0} (is_ready : P → Clauses → TrailValue → Type 0) (atta
         (b.0, omega arith);
     lemmas = subst (AreLemmas 0 (live_in_session u)) (sym lemmas) (lemmas_same 0 s.search.state.arena u.search.state.arena s.search.lemmas.items same h.lemmas);
     noted = subst (AreNoted (live_in_session u)) (sym units) (noted_same s.search.state.arena u.search.state.arena s.search.units.numbers.items same h.noted);
-    few = subst (λ v. v ≤ 2000000) (sym vars) h.few;
+    few = subst (λ v. v ≤ 199999999) (sym vars) h.few;
     bounded = subst (λ n. n ≤ 2 ^ 47) (sym top) h.bounded;
     stamped = stamped;
   }

@@ -24,7 +24,7 @@ use Rattle.lrat_text.specs.declared.step.Step.TheVariants.{Add, Delete}
 use Rattle.lrat_text.proofs.ClauseMapLemmas.{not_in}
 use Rattle.lrat_text.proofs.RunLemmas.{after_append, text_append, top_append}
 use Rattle.watches.specs.Law.{SameUpToOrder}
-use Rattle.cube_solve.specs.Session.{last_of, live_in_session, log_of}
+use Rattle.cube_solve.specs.Session.{last_of, live_in_session, log_of, vars_of}
 use Rattle.cube_solve.specs.SessionLog.{AreRightSteps, IsFailure, IsKnown, LogGrowsFrom, LogGrows}
 use Rattle.cube_solve.specs.declared.search.Search.{Search}
 use Rattle.cube_solve.specs.declared.session.Session.{Session}
@@ -38,14 +38,15 @@ use Rattle.cube_solve.proofs.LogLemmas.{rup_same}
 use Rattle.cube_solve.proofs.MapLemmas.{map_added}
 use Rattle.cube_solve.proofs.SessionLemmas.{from_map, in_map}
 
-right_append : (given : List ℕ) (M : ClauseMap) (top : ℕ) (xs ys : List Step) → AreRightSteps given M top xs → AreRightSteps given (after_steps M xs) (top_of top xs) ys → AreRightSteps given M top (xs ++ ys)
-right_append given M top [] ys h g = g
-right_append given M top (x ∷ xs) ys h g = (h.0, h.1, right_append given (after_step M x) (top_after top x) xs ys h.2 g)
+right_append : (most : ℕ) (given : List ℕ) (M : ClauseMap) (top : ℕ) (xs ys : List Step) → AreRightSteps most given M top xs
+    → AreRightSteps most given (after_steps M xs) (top_of top xs) ys → AreRightSteps most given M top (xs ++ ys)
+right_append most given M top [] ys h g = g
+right_append most given M top (x ∷ xs) ys h g = (h.0, h.1, right_append most given (after_step M x) (top_after top x) xs ys h.2 g)
 
 module _ {P : Type 0} where
   -- nothing was written
-  pub tells_none : (given : List ℕ) (M : ClauseMap) (s u : Session P) → log_of u ≡ log_of s → last_of u ≡ last_of s → IsKnown given M u → LogGrowsFrom given M s u
-  tells_none given M s u log last known = record { steps = []; right = tt; text = log ∙ sym (append-nil (log_of s)); last = last; known = known }
+  pub tells_none : (given : List ℕ) (M : ClauseMap) (s u : Session P) → vars_of u ≡ vars_of s → log_of u ≡ log_of s → last_of u ≡ last_of s → IsKnown given M u → LogGrowsFrom given M s u
+  tells_none given M s u vars log last known = record { steps = []; vars = vars; right = tt; text = log ∙ sym (append-nil (log_of s)); last = last; known = known }
 
   pub known_same : (given : List ℕ) (M : ClauseMap) (s u : Session P) → SameUpToOrder s.search.state.arena u.search.state.arena → u.search.lemmas.items ≡ s.search.lemmas.items → last_of u ≡ last_of s
       → IsKnown given M s → IsKnown given M u
@@ -55,17 +56,19 @@ module _ {P : Type 0} where
     apart = λ n i j. h.apart n i (subst (λ xs. Contains xs n) lemmas j);
   }
 
-  pub tells_same : (s u : Session P) → SameUpToOrder s.search.state.arena u.search.state.arena → u.search.lemmas.items ≡ s.search.lemmas.items → log_of u ≡ log_of s → last_of u ≡ last_of s → LogGrows s u
-  tells_same s u same lemmas log last = λ given M h. tells_none given M s u log last (known_same given M s u same lemmas last h)
+  pub tells_same : (s u : Session P) → SameUpToOrder s.search.state.arena u.search.state.arena → vars_of u ≡ vars_of s → u.search.lemmas.items ≡ s.search.lemmas.items → log_of u ≡ log_of s → last_of u ≡ last_of s → LogGrows s u
+  tells_same s u same vars lemmas log last = λ given M h. tells_none given M s u vars log last (known_same given M s u same lemmas last h)
 
   pub tells_itself : (s : Session P) → LogGrows s s
-  tells_itself s = λ given M h. tells_none given M s s refl refl h
+  tells_itself s = λ given M h. tells_none given M s s refl refl refl h
 
   -- one call after another
   tells_trans : (given : List ℕ) (M : ClauseMap) (s u w : Session P) (x : LogGrowsFrom given M s u) → LogGrowsFrom given (after_steps M x.steps) u w → LogGrowsFrom given M s w
   tells_trans given M s u w x y = record {
     steps = x.steps ++ y.steps;
-    right = right_append given M (last_of s) x.steps y.steps x.right (subst (λ k. AreRightSteps given (after_steps M x.steps) k y.steps) x.last y.right);
+    vars = y.vars ∙ x.vars;
+    right = right_append (vars_of s) given M (last_of s) x.steps y.steps x.right
+        (subst (λ k. AreRightSteps (vars_of s) given (after_steps M x.steps) k y.steps) x.last (subst (λ v. AreRightSteps v given (after_steps M x.steps) (last_of u) y.steps) x.vars y.right));
     text = y.text ∙ ap (λ (t : List ℕ). t ++ text_of (last_of u) y.steps) x.text ∙ append_assoc (log_of s) (text_of (last_of s) x.steps) (text_of (last_of u) y.steps)
         ∙ ap (λ k. log_of s ++ (text_of (last_of s) x.steps ++ text_of k y.steps)) x.last ∙ ap (λ (t : List ℕ). log_of s ++ t) (sym (text_append (last_of s) x.steps y.steps));
     last = y.last ∙ ap (λ k. top_of k y.steps) x.last ∙ sym (top_append (last_of s) x.steps y.steps);
@@ -76,15 +79,16 @@ module _ {P : Type 0} where
   tells_on s u w f g = λ given M h. let x = f given M h in tells_trans given M s u w x (g given (after_steps M x.steps) x.known)
 
   -- a lemma joins
-  pub tells_learnt : (s u : Session P) (vars : ℕ) → last_of u ≡ last_of s + 1 → AreBelow (last_of s + 1) (live_in_session s) → u.search.lemmas.items ≡ s.search.lemmas.items ++ last_of u ∷ []
-      → Learns vars (last_of u) (live_in_session s) (live_in_session u) (log_of s) (log_of u) → LogGrows s u
-  tells_learnt s u vars next below lemmas g = λ given M h.
+  pub tells_learnt : (s u : Session P) → vars_of u ≡ vars_of s → last_of u ≡ last_of s + 1 → AreBelow (last_of s + 1) (live_in_session s) → u.search.lemmas.items ≡ s.search.lemmas.items ++ last_of u ∷ []
+      → Learns (vars_of s) (last_of u) (live_in_session s) (live_in_session u) (log_of s) (log_of u) → LogGrows s u
+  tells_learnt s u same next below lemmas g = λ given M h.
       let id = last_of u in
       let old = live_in_session s in
       let w = g.written in
       let fresh : get M id ≡ None = not_in M id (λ C i. let d = (h.linked).forth id C i in let b = below id d.0 d.1 in let up = b.1 in omega arith) in
       record {
         steps = Add id g.lits w.hints [] ∷ [];
+        vars = same;
         right = (w.limits, (next, refl, rup_same old (live_in M) ((linked_turned (live_in M) old h.linked).forth) g.lits w.hints w.rup), tt);
         text = w.text ∙ ap (λ (t : List ℕ). log_of s ++ t) (sym (append-nil (line_of id (Add id g.lits w.hints []))));
         last = refl;
@@ -96,8 +100,8 @@ module _ {P : Type 0} where
       }
 
   -- lemmas go
-  pub tells_dropped : (s u : Session P) → IsClauseNumber (last_of s) → last_of u ≡ last_of s → AreLemmas 0 (live_in_session s) s.search.lemmas.items → DeletesLemmas (last_of s) s.search.lemmas.items u.search.lemmas.items (live_in_session s) (live_in_session u) (log_of s) (log_of u) → LogGrows s u
-  tells_dropped s u number last held f = λ given M h.
+  pub tells_dropped : (s u : Session P) → vars_of u ≡ vars_of s → IsClauseNumber (last_of s) → last_of u ≡ last_of s → AreLemmas 0 (live_in_session s) s.search.lemmas.items → DeletesLemmas (last_of s) s.search.lemmas.items u.search.lemmas.items (live_in_session s) (live_in_session u) (log_of s) (log_of u) → LogGrows s u
+  tells_dropped s u same number last held f = λ given M h.
       let old = live_in_session s in
       let new = live_in_session u in
       let there : (id : ℕ) → Contains s.search.lemmas.items id → IsSome (get M id) = λ id i.
@@ -106,13 +110,14 @@ module _ {P : Type 0} where
       some_is (get M id) d.0 d.1 in
       let apart : (n : ℕ) → Contains given n → ¬ (Contains u.search.lemmas.items n) = λ n i j. h.apart n i (All-contains (Contains s.search.lemmas.items) u.search.lemmas.items n f.kept j) in
       elim f.told [
-        | inl none ↦ tells_none given M s u none.1 last (record {
+        | inl none ↦ tells_none given M s u same none.1 last (record {
           linked = linked_less (live_in M) (live_in M) old new [] h.linked (record { stays = λ n C i k. i; was = λ n C i. (Contains-nil n, i) }) (subst (λ ids. AreAllExcept old ids new) none.0 f.less);
           before = λ n i. subst (λ k. n ≤ k) (sym last) (h.before n i);
           apart = apart;
         })
         | inr some ↦ record {
           steps = Delete f.ids ∷ [];
+          vars = same;
           right = (
             some.0,
             (

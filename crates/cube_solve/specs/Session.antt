@@ -18,29 +18,31 @@ use Rattle.cube_solve.specs.declared.answer.Answer.TheVariants as answer
 use Rattle.cube_solve.specs.declared.session.Session.{Session}
 
 -- ---- answers
--- each of these literals is true
+-- an assignment's property: each of these literals is true under it
 abbrev pub AllTrue : (ℕ → Bool) → List Literal → Type 0
 AllTrue a ls = (l : Literal) → Contains ls l → literal_true a l ≡ true
 
--- a solution: one truth value for each variable, which satisfies the clauses and makes each literal of the query true
+-- a solution of a query A: one truth value for each variable, which satisfies the clauses F and makes each literal of the query true
 pub record IsSolution (vars : ℕ) (F : List Clause) (A : Cube) (values : List Bool) : Type 0 where
   pub whole : length values ≡ vars
   pub clauses : All (IsTrueIn (assignment_of values)) F
   pub query : AllTrue (assignment_of values) A
 
--- a core: literals of the query, in its order and none twice, that no assignment that satisfies the clauses makes true together
+-- the core of a query A: literals of the query, in its order and none twice, that no assignment that satisfies the clauses F makes true
+-- together
 pub record IsCore (F : List Clause) (A : Cube) (core : List Literal) : Type 0 where
   pub within : (l : Literal) → Contains core l → Contains A l
   pub ordered : IsSubsequenceOf core A
   pub distinct : IsDistinct same core
   pub fails : (a : ℕ → Bool) → All (IsTrueIn a) F → ¬ (AllTrue a core)
 
--- the answer to a query is right, if F are the clauses so far, over so many variables
+-- an answer's property: it is right for the query A if F are the clauses so far, over the variables from 1 to `vars`
 abbrev pub IsRightAnswer : ℕ → List Clause → Cube → Answer → Type 0
 IsRightAnswer vars F A (answer.Satisfied values) = IsSolution vars F A values
 IsRightAnswer vars F A (answer.Failed failure) = IsCore F A failure.core.items
 IsRightAnswer vars F A answer.Unknown = Unit {0}
 
+-- P holds if the answer is that the limit was reached
 abbrev pub IfUnknown : Answer → Type 0 → Type 0
 IfUnknown (answer.Satisfied values) P = Unit {0}
 IfUnknown (answer.Failed failure) P = Unit {0}
@@ -48,7 +50,7 @@ IfUnknown answer.Unknown P = P
 
 -- ---- the value of a session
 module _ {P : Type 0} where
-  -- the number of variables
+  -- the number of a session's variables
   abbrev pub vars_of : Session P → ℕ
   vars_of s = s.search.state.trail.vars
 
@@ -56,10 +58,11 @@ module _ {P : Type 0} where
   abbrev pub last_of : Session P → ℕ
   last_of s = s.top
 
-  -- the text of the log: lemmas and deletions since the log was last taken, or the beginning
+  -- the text of a session's log: its lemmas and deletions since the log was last taken, or since the beginning
   abbrev pub log_of : Session P → List ℕ
   log_of s = s.search.log
 
+  -- the live clauses of a session, given or learnt
   abbrev pub live_in_session : Session P → Live
   live_in_session s = live_of s.search.state.arena
 
@@ -69,10 +72,10 @@ module _ {P : Type 0} where
     pub below : AreBelow (s.top + 1) (live_in_session s)
     pub lemmas : AreLemmas 0 (live_in_session s) s.search.lemmas.items
     pub noted : AreNoted (live_in_session s) s.search.units.numbers.items
-    pub few : vars_of s ≤ 2000000
+    pub few : vars_of s ≤ 199999999
     pub bounded : s.top ≤ 2 ^ 47
     pub stamped : AreStamped (vars_of s) s.marks
 
-  -- F are the clauses that were given
+  -- a session's property: F are the clauses that were given
   abbrev pub AreGiven : List Clause → Session P → Type 0
   AreGiven F s = HasClauses F (live_in_session s) s.search.lemmas.items

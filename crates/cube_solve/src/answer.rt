@@ -1,13 +1,13 @@
-//! Answers of queries.
+//! The answer of a query of a session.
 
 use dimacs::{Assignment, Lit};
 
-/// Why a query fails.
+/// Why a query fails: its core, and the hints that show it.
 #[derive(Drop)]
 pub struct Failure {
     /// The core: literals of the query, in its order and none twice, that no assignment that satisfies the clauses makes true together.
     pub core: Vec<Lit>,
-    /// The numbers of clauses by which the core leads to a false clause (hints); none if the core has a literal and its negation.
+    /// The hints: numbers of the clauses by which the core leads to a false clause; none if the core has a literal and its negation.
     pub hints: Vec<u64>,
 }
 

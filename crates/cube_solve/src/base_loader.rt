@@ -1,4 +1,4 @@
-//! Loads the clauses of a base into the arena.
+//! Loads the clauses of a base into the arena, without repeated literals.
 
 ghost use Rattle.std.specs.Prelude.{◌≡◌, ◌+◌, ◌<◌, [], ◌∷◌, ◌++◌, length, All, OnOk};
 ghost use Rattle.std.specs.List.{IsDistinct};
@@ -15,9 +15,14 @@ use dimacs::{Base, Lit};
 use std::alloc::{AllocError, Global};
 use watches::{Propagator, Trail, add_clause};
 
-/// Pushes and stamps a literal that does not have the stamp yet.
+/// Appends a literal to `kept` and stamps it, unless the literal has the stamp already.
 #[inline]
-fn keep(literal: Lit, stamps: &mut [u32], stamp: u32, kept: &mut Vec<Lit>) -> Result<(), AllocError>
+fn push_distinct(
+    literal: Lit,
+    stamps: &mut [u32],
+    stamp: u32,
+    kept: &mut Vec<Lit>,
+) -> Result<(), AllocError>
     requires { index_of literal < length stamps.old }
     ensures marks { OnOk result ((seen : Clause) → AreMarks seen kept.old.items stamps.old stamp → AreMarks (seen ++ literal ∷ []) kept.new.items stamps.new stamp) }
     ensures bounded { All (λ s. s < stamp + 1) stamps.old → All (λ s. s < stamp + 1) stamps.new }
@@ -31,8 +36,8 @@ fn keep(literal: Lit, stamps: &mut [u32], stamp: u32, kept: &mut Vec<Lit>) -> Re
     Ok(())
 }
 
-/// Writes the literals of a clause to `kept`, each once, in the order of their first occurrences. `stamp` is fresh, and marks those that
-/// are kept.
+/// Appends the literals of a clause to the empty `kept`, each once, in the order of their first occurrences, and stamps them. No literal
+/// has `stamp` before.
 pub(crate) fn keep_first(
     clause: &[Lit],
     stamps: &mut [u32],
@@ -49,12 +54,12 @@ pub(crate) fn keep_first(
     ensures bounded { All (λ s. s < stamp + 1) stamps.new }
 {
     for &literal in clause {
-        keep(literal, stamps, stamp, kept)?;
+        push_distinct(literal, stamps, stamp, kept)?;
     }
     Ok(())
 }
 
-/// Adds and attaches the clauses of a base, numbered from 1, without repeated literals.
+/// Adds the clauses of a base to the empty arena, numbered from 1 and without repeated literals, and attaches them to the propagator.
 pub(crate) fn load<P: Propagator>(
     alloc: Global,
     base: &Base,

@@ -1,4 +1,4 @@
-//! The next assumption or decision.
+//! The choice of the next assumption or decision.
 
 ghost use Rattle.std.specs.Prelude.{List, All};
 ghost use Rattle.dimacs.specs.logic.Literal.{Literal, IsWithin};
@@ -11,7 +11,7 @@ use crate::decision_order::Order;
 use dimacs::Lit;
 use watches::{Trail, Truth};
 
-/// The next step when nothing is left to propagate.
+/// The next step of a descent if nothing is left to propagate.
 pub(crate) enum Next {
     /// Assume this literal of the cube, which is unassigned.
     Assume(Lit),
@@ -23,20 +23,20 @@ pub(crate) enum Next {
     Done,
 }
 
-/// Decides the next variable of the decision order; `Done` if each variable is assigned. The cube is true.
+/// Pops the next unassigned variable of the decision order; `Done` if each variable is assigned. It is called if the cube is true.
 fn decide(trail: &Trail, order: &mut Order) -> Next
     requires { IsOrder trail.now order.old }
     ensures next { (cube : List Literal) → AllHold trail.now.entries cube → IsNext trail.now cube result }
     ensures taken { IsTaken trail.now result order.new }
 {
-    match order.take(trail) {
+    match order.next_decision(trail) {
         Some(literal) => Next::Decide(literal),
         None => Next::Done,
     }
 }
 
-/// Picks the first literal of the cube that is not true; if the cube is true, the next decision. Above the levels of assumptions the
-/// cube is true and is not read. Its first `held` literals are known to be true.
+/// Picks the first literal of the cube that is not true, or the next decision if the cube is true. Raises `held`, the number of first
+/// literals of the cube that are known to be true. Above level `assumed` the cube is true and is not read.
 pub(crate) fn pick(
     trail: &Trail,
     cube: &[Lit],

@@ -2,7 +2,7 @@
 
 ghost use Rattle.std.specs.Prelude.{◌≡◌, ◌-◌, ◌<◌, ◌≤◌, ◌^◌, false, All, IfOk, IfSome, IfNone};
 ghost use Rattle.dimacs.specs.logic.Literal.{Neg};
-ghost use Rattle.cube_solve.specs.inner.DecisionOrder.{IsOrder, IsOrderBut, AreAllIn, ArePutBack, AreWaiting};
+ghost use Rattle.cube_solve.specs.inner.DecisionOrder.{IsOrder, IsOrderBut, AreAllIn, ArePutBack, HasSameMembers};
 ghost use Rattle.cube_solve.specs.inner.State.{IsTotal};
 ghost use Rattle.cube_solve.specs.inner.Steps.{IsUnassigned};
 
@@ -14,24 +14,30 @@ use std::alloc::{AllocError, Global};
 use std::marker::Model;
 use watches::{Trail, Truth};
 
-/// The first bump of a score. With each lemma the bump grows by a 200th part, so that late bumps count more.
+/// The first bump of a score. With each lemma the bump grows by a 200th, so that late bumps count more.
 const FIRST_BUMP: u64 = 1 << 10;
 
+/// The bump grows by itself divided by this number, and 1.
 const GROWTH: u64 = 200;
 
-/// If the bump is above this, it and all scores are divided by `SCALE` (rescoring).
+/// If the bump is above this number, it and all scores are divided by `SCALE` (rescoring).
 const GREATEST_BUMP: u64 = 1 << 50;
 
+/// The divisor of a rescoring.
 const SCALE: u64 = 1 << 40;
 
-/// The order of decisions: by scores in stable phases, by the last bump (VMTF) in most focused ones. In both, each unassigned variable
-/// is in the heap, so that the heap decides if the queue finds no variable.
+/// The order of decisions: by scores in stable phases and in focused phases of a flat formula (`Modes::is_flat`), else by the last bump
+/// (VMTF). Each unassigned variable is in the heap, so that the heap decides if the queue finds no variable.
 pub(crate) struct Order {
+    /// The unassigned variables, and perhaps others, by score.
     heap: DecideHeap,
     /// The amount that a bump adds to a score.
     bump: u64,
+    /// All variables, by the time of their last bump.
     queue: VmtfQueue,
+    /// The value to try first for each variable.
     values: SavedPhases,
+    /// Whether the mode is stable; else it is focused.
     is_stable: bool,
     /// Whether the heap decides and is bumped, instead of the queue.
     by_scores: bool,
@@ -58,7 +64,7 @@ impl Model for Order {
     ghost view = { λ o. o.heap };
 }
 
-/// Inserts each variable.
+/// Inserts the variables from 1 to `vars` into the heap.
 fn fill(heap: &mut DecideHeap, vars: u32)
     requires vars { heap.old.vars ≡ vars }
     requires limit { vars < 2 ^ 31 }
@@ -69,8 +75,8 @@ fn fill(heap: &mut DecideHeap, vars: u32)
     }
 }
 
-/// Pops variables from the heap, the best first, until one is unassigned.
-fn take_free(heap: &mut DecideHeap, trail: &Trail) -> Option<Var>
+/// Pops variables from the heap, the best first, until one is unassigned; None if the heap has no unassigned variable.
+fn pop_unassigned(heap: &mut DecideHeap, trail: &Trail) -> Option<Var>
     requires { IsOrder trail.now heap.old }
     ensures free { IfSome result (λ v. IsUnassigned trail.now (Neg v)) }
     ensures but { IfSome result (λ v. IsOrderBut trail.now (Neg v) heap.new) }
@@ -89,7 +95,7 @@ fn take_free(heap: &mut DecideHeap, trail: &Trail) -> Option<Var>
     }
 }
 
-/// Inserts the variables of the entries above a level again, and saves their values.
+/// Inserts the variables of the trail's entries above a level into the heap again, moves the cursor of the queue, and saves their values.
 fn put_back(
     heap: &mut DecideHeap,
     queue: &mut VmtfQueue,
@@ -115,10 +121,10 @@ fn put_back(
     }
 }
 
-/// Adds an amount to the score of each variable.
+/// Adds an amount to the score of each of these variables, once for each of its occurrences.
 fn bump_all(heap: &mut DecideHeap, vars: &[Var], amount: u64)
     requires { All (λ v. (0 < v) × (v ≤ heap.old.vars)) vars.now }
-    ensures { AreWaiting heap.old heap.new }
+    ensures { HasSameMembers heap.old heap.new }
 {
     for &var in vars {
         heap.add(var, amount);
@@ -126,7 +132,7 @@ fn bump_all(heap: &mut DecideHeap, vars: &[Var], amount: u64)
 }
 
 impl Order {
-    /// Each variable is in the heap, with the saved value false.
+    /// An order with each variable from 1 to `vars` in the heap; each saved value is false, and the first mode is focused.
     pub(crate) fn new(alloc: Global, vars: u32) -> Result<Order, AllocError>
         requires { vars < 2 ^ 31 }
         ensures { IfOk result (AreAllIn vars) }
@@ -144,7 +150,7 @@ impl Order {
         })
     }
 
-    /// The next unassigned variable of the queue; None if the heap decides.
+    /// Finds the last bumped unassigned variable of the queue; None if the heap decides, or if the queue finds none.
     fn find_queued(&mut self, trail: &Trail) -> Option<Var>
         ensures free { IfSome result (λ v. IsUnassigned trail.now (Neg v)) }
         ensures same { self.new ≡ self.old }
@@ -155,8 +161,8 @@ impl Order {
         self.queue.find(trail)
     }
 
-    /// The next unassigned variable. If the heap decides, it is popped.
-    fn take_var(&mut self, trail: &Trail) -> Option<Var>
+    /// Takes the next unassigned variable: the queue's, or else the heap's best, which is popped; None if each variable is assigned.
+    fn next_variable(&mut self, trail: &Trail) -> Option<Var>
         requires { IsOrder trail.now self.old }
         ensures free { IfSome result (λ v. IsUnassigned trail.now (Neg v)) }
         ensures but { IfSome result (λ v. IsOrderBut trail.now (Neg v) self.new) }
@@ -165,19 +171,19 @@ impl Order {
     {
         match self.find_queued(trail) {
             Some(var) => Some(var),
-            None => take_free(&mut self.heap, trail),
+            None => pop_unassigned(&mut self.heap, trail),
         }
     }
 
-    /// The next decision: an unassigned variable, with the value to try first.
-    pub(crate) fn take(&mut self, trail: &Trail) -> Option<Lit>
+    /// Takes the next decision: an unassigned variable, with the value to try first; None if each variable is assigned.
+    pub(crate) fn next_decision(&mut self, trail: &Trail) -> Option<Lit>
         requires { IsOrder trail.now self.old }
         ensures free { IfSome result (IsUnassigned trail.now) }
         ensures but { IfSome result (λ l. IsOrderBut trail.now l self.new) }
         ensures total { IfNone result (IsTotal trail.now) }
         ensures order { IfNone result (IsOrder trail.now self.new) }
     {
-        match self.take_var(trail) {
+        match self.next_variable(trail) {
             Some(var) => {
                 if self.values.of(var, self.is_stable) {
                     Some(Lit::positive(var))
@@ -189,7 +195,7 @@ impl Order {
         }
     }
 
-    /// Inserts the variables of the entries above a level again, and saves their values. It is called before `undo`.
+    /// Inserts the variables of the trail's entries above a level again, and saves their values. It is called before `undo`.
     pub(crate) fn put_back(&mut self, trail: &Trail, level: u32)
         requires { self.old.vars ≡ trail.now.vars }
         ensures { ArePutBack trail.now level self.old self.new }
@@ -203,24 +209,25 @@ impl Order {
         );
     }
 
-    /// Bumps the variables that an analysis met. By scores, repeated variables are bumped once more for each repetition.
+    /// Bumps the variables `met` of an analysis: their scores if the heap decides, else their times in the queue. A score is bumped once
+    /// more for each occurrence in `again`.
     pub(crate) fn bump(&mut self, met: &[Var], again: &[Var]) -> Result<(), AllocError>
         requires met { All (λ v. (0 < v) × (v ≤ self.old.vars)) met.now }
         requires again { All (λ v. (0 < v) × (v ≤ self.old.vars)) again.now }
-        ensures { AreWaiting self.old self.new }
+        ensures { HasSameMembers self.old self.new }
     {
         if !self.by_scores {
             return self.queue.bump(met);
         }
         bump_all(&mut self.heap, met, self.bump);
         bump_all(&mut self.heap, again, self.bump);
-        self.grow();
+        self.raise_bump();
         Ok(())
     }
 
-    /// Raises the amount of the next bump. If it became too great, rescores.
-    fn grow(&mut self)
-        ensures { AreWaiting self.old self.new }
+    /// Raises the next bump by a 200th. If it is above `GREATEST_BUMP` then, divides it and all scores by `SCALE`.
+    fn raise_bump(&mut self)
+        ensures { HasSameMembers self.old self.new }
     {
         self.bump = self.bump.saturating_add(self.bump / GROWTH + 1);
         if self.bump > GREATEST_BUMP {
@@ -229,22 +236,25 @@ impl Order {
         }
     }
 
-    /// Updates the target and best values from a trail's entries below its last level.
+    /// Updates the target and best values if the trail without its conflict level is the longest so
+    /// far.
     pub(crate) fn note(&mut self, trail: &Trail)
         ensures { self.new ≡ self.old }
     {
         self.values.note(trail);
     }
 
-    /// Takes over the saved values of a search over fewer variables, and the values of its trail.
+    /// Copies the saved values of another search when a session moves to more variables, so that
+    /// the new search first tries the values that the old one had.
     pub(crate) fn take_over(&mut self, other: &Order, trail: &Trail)
         ensures { self.new ≡ self.old }
     {
         self.values.take_over(&other.values, trail);
     }
 
-    /// Switches between focused and stable mode.
-    pub(crate) fn change(&mut self, by_scores: bool)
+    /// Switches between focused and stable mode; `by_scores` says whether the heap decides in the
+    /// new mode. The queue's search begins at its latest variable again.
+    pub(crate) fn switch_mode(&mut self, by_scores: bool)
         ensures { self.new ≡ self.old }
     {
         self.is_stable = !self.is_stable;
@@ -252,7 +262,7 @@ impl Order {
         self.queue.rewind();
     }
 
-    /// Resets the saved values.
+    /// Sets the saved values as the rephasing says.
     pub(crate) fn rephase(&mut self, kind: Rephase)
         ensures { self.new ≡ self.old }
     {

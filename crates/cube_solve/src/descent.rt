@@ -1,4 +1,4 @@
-//! Descent: propagation, assumptions and decisions, down to a conflict or a model.
+//! The descent of a search: propagation, assumptions and decisions, down to a conflict, a false assumption or a model.
 
 ghost use Rattle.std.specs.Prelude.{◌≡◌, ◌+◌, ◌<◌, ◌≤◌, ◌∷◌, [], ◌++◌, List, length, All, IfSome, IfNone};
 ghost use Rattle.clause_arena.specs.Clauses.{live_of};
@@ -27,13 +27,13 @@ pub(crate) enum Found {
     Assumption(Lit),
 }
 
-/// Opens a level with a literal, when nothing is left to propagate.
+/// Pushes a literal without a reason on the trail, at a new level. It is called if nothing is left to propagate.
 fn open_level<P: Propagator>(propagator: &P, arena: &Arena, trail: &mut Trail, literal: Lit)
     requires ready { P.is_ready propagator.now arena.now trail.old }
     requires state { IsState (P.attached propagator.now) arena.now trail.old }
     requires quiet { IsFixpoint (live_of arena.now) trail.old.entries }
     requires free { IsUnassigned trail.old literal }
-    requires limit { trail.old.vars ≤ 2000000 }
+    requires limit { trail.old.vars ≤ 199999999 }
     ensures ready { P.is_ready propagator.now arena.now trail.new }
     ensures state { IsState (P.attached propagator.now) arena.now trail.new }
     ensures vars { trail.new.vars ≡ trail.old.vars }
@@ -51,7 +51,8 @@ fn open_level<P: Propagator>(propagator: &P, arena: &Arena, trail: &mut Trail, l
 }
 
 impl<P: Propagator> State<'_, P> {
-    /// Propagates until a clause is false, whose number is returned, or no clause is unit. Counts ticks.
+    /// Propagates until a clause is false or none is unit. Returns the number of the false clause; None if there is none. Adds the number
+    /// of new entries of the trail to `ticks`.
     fn propagate_all(&mut self) -> Option<u64>
         requires { IsSteady P.is_ready P.attached self.old }
         ensures steady { IsSteady P.is_ready P.attached self.new }
@@ -70,11 +71,11 @@ impl<P: Propagator> State<'_, P> {
         found
     }
 
-    /// Propagates and decides until a clause or an assumption is false, or each variable has a value.
+    /// Propagates, assumes and decides until a clause or a literal of the cube is false, or each variable has a value.
     pub(crate) fn descend(&mut self, cube: &[Lit]) -> Found
         requires steady { IsSteady P.is_ready P.attached self.old }
         requires assuming { IsAssuming cube.now self.old.trail.entries self.old.assumed }
-        requires limit { self.old.trail.vars ≤ 2000000 }
+        requires limit { self.old.trail.vars ≤ 199999999 }
         requires cube { All (IsWithin self.old.trail.vars) cube.now }
         ensures steady { IsSteady P.is_ready P.attached self.new }
         ensures assuming { IsAssuming cube.now self.new.trail.entries self.new.assumed }

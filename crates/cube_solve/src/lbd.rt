@@ -1,4 +1,4 @@
-//! Literal block distance (LBD, glue): the number of levels of a clause's literals (Audemard and Simon 2009).
+//! Literal block distance (LBD, glue): the number of decision levels of a clause's literals (Audemard and Simon 2009).
 
 ghost use Rattle.std.specs.Prelude.{All};
 ghost use Rattle.dimacs.specs.logic.Literal.{IsWithin};
@@ -7,14 +7,16 @@ use dimacs::Lit;
 use std::alloc::{AllocError, Global};
 use watches::{Trail, Truth};
 
-/// Counts the levels of a clause. A level was counted before if its stamp is the present one.
+/// A counter of the levels of a clause. It has a stamp for each level, which is the present stamp if the level was counted for this clause.
 #[derive(Drop)]
 pub(crate) struct LbdCounter {
+    /// By level, from 0 on.
     stamps: Vec<u64>,
+    /// The stamp of the present count.
     stamp: u64,
 }
 
-/// The level of a literal; 0 if it is unassigned.
+/// The level at which a literal was made true or false; 0 if it is unassigned.
 fn level_of(trail: &Trail, literal: Lit) -> u32
     requires { IsWithin trail.now.vars literal }
 {
@@ -26,7 +28,7 @@ fn level_of(trail: &Trail, literal: Lit) -> u32
 }
 
 impl LbdCounter {
-    /// A counter for levels from 0 to `vars`.
+    /// A counter for levels from 0 to `vars`, before its first count.
     pub(crate) fn new(alloc: Global, vars: u32) -> Result<LbdCounter, AllocError> {
         Ok(LbdCounter {
             stamps: vec![in alloc; 0; vars as usize + 1]?,
@@ -34,7 +36,7 @@ impl LbdCounter {
         })
     }
 
-    /// Whether a level above 0 is counted for the first time.
+    /// Stamps a level. Returns true if the level is above 0 and had no stamp of the present count.
     fn is_new(&mut self, level: u32) -> bool {
         if level == 0 {
             return false;
@@ -49,7 +51,7 @@ impl LbdCounter {
         }
     }
 
-    /// The number of levels above 0 of a clause's literals. It stops at `most`.
+    /// Counts the levels above 0 of a clause's literals, up to `most`. Unassigned literals count for no level.
     pub(crate) fn count(&mut self, trail: &Trail, clause: &[Lit], most: u8) -> u8
         requires { All (IsWithin trail.now.vars) clause.now }
     {

@@ -1,4 +1,4 @@
-//! Statistics of lemmas, their uses and LBDs, by which lemmas are chosen for deletion.
+//! Statistics of lemmas: how often each was used, and its LBD. By them lemmas are chosen for deletion.
 //!
 //! No promise rests on the counts: any lemma that is chosen by them may be deleted.
 
@@ -12,30 +12,32 @@ use clause_arena::Arena;
 use std::alloc::{AllocError, Global};
 use watches::Trail;
 
-/// What one use adds to a count. It is gone after eleven halvings, and a count saturates at 64 uses.
+/// What one use adds to a count. After eleven halvings nothing is left of it, and a count saturates at 64 uses.
 const USE: u16 = 1024;
 
-/// A lemma with at most this LBD is kept forever.
+/// A lemma with at most this LBD is never deleted.
 const FEW_LEVELS: u8 = 2;
 
-/// The limit of live lemmas, beside those that are kept forever, at the first reduction, and its increase at each later one.
+/// The limit of live lemmas at the first reduction, beside those that are kept forever.
 const MOST_LEMMAS: usize = 2000;
 
+/// The increase of the limit at each later reduction.
 const MORE_LEMMAS: usize = 20;
 
-/// The increase in a session, which keeps lemmas from query to query.
+/// The increase of the limit in a session, which keeps lemmas from query to query.
 const MORE_LEMMAS_KEPT: usize = 300;
 
-/// For each lemma: a count of the analyses that used it, its own included, which is halved from time to time; and the least LBD that it
-/// had in one of them.
+/// For each clause from the first lemma on: a count of the analyses that used it, its own included, which is halved from time to time; and
+/// its LBD.
 #[derive(Drop)]
 pub(crate) struct LemmaStats {
-    /// The number of the first lemma, at place 0 of the tables.
+    /// The number of the first lemma, whose counts are at index 0 of the tables.
     first: u64,
     /// The use count of each lemma, live or deleted.
     counts: Vec<u16>,
-    /// The LBD of each lemma, without the level on which it was learnt.
+    /// The LBD of each lemma: at first without the level of its conflict; later the least that `lower_lbds` found, of all levels above 0.
     levels: Vec<u8>,
+    /// The number of reductions so far.
     reductions: usize,
     /// The increase of the limit at each reduction.
     more: usize,
@@ -43,7 +45,7 @@ pub(crate) struct LemmaStats {
     most: usize,
 }
 
-/// Pushes a number if it is to be kept.
+/// Appends a number to `numbers` if `kept` is true. A function of its own, for its contract.
 fn keep_if(kept: bool, number: u64, numbers: &mut Vec<u64>) -> Result<(), AllocError>
     ensures { OnOk result ((numbers.new.items ≡ numbers.old.items) ⊎ ((numbers.new.items ≡ numbers.old.items ++ number ∷ []) × Unit {0})) }
 {
@@ -53,8 +55,8 @@ fn keep_if(kept: bool, number: u64, numbers: &mut Vec<u64>) -> Result<(), AllocE
     Ok(())
 }
 
-/// The LBD of the clause of a number, at most `most`.
-fn count_of(levels: &mut LbdCounter, arena: &Arena, trail: &Trail, number: u64, most: u8) -> u8
+/// The LBD of the live clause of this number, counted up to `most`; `most` if there is none.
+fn lbd_up_to(levels: &mut LbdCounter, arena: &Arena, trail: &Trail, number: u64, most: u8) -> u8
     requires { AreInside (live_of arena.now) trail.now.vars }
 {
     match arena.find(number) {
@@ -64,7 +66,7 @@ fn count_of(levels: &mut LbdCounter, arena: &Arena, trail: &Trail, number: u64, 
 }
 
 impl LemmaStats {
-    /// No lemma yet; `first` is the number of the first.
+    /// Statistics of no lemma; `first` is the number of the first lemma to come.
     pub(crate) fn new(alloc: Global, first: u64) -> LemmaStats {
         LemmaStats {
             first,
@@ -76,26 +78,27 @@ impl LemmaStats {
         }
     }
 
-    /// Keeps more lemmas, for a session.
+    /// Raises the limit of live lemmas faster at each reduction: in a session, later queries use
+    /// lemmas of earlier ones.
     pub(crate) fn keep_more(&mut self) {
         self.more = MORE_LEMMAS_KEPT;
     }
 
-    /// Adds the next lemma, of so many levels.
+    /// Appends the statistics of the next clause, with one use and the LBD `levels`, which is 0 if the clause is no lemma.
     pub(crate) fn learn(&mut self, levels: u8) -> Result<(), AllocError> {
         self.counts.push(USE)?;
         self.levels.push(levels)?;
         Ok(())
     }
 
-    /// Adds the next lemma, of one literal. It is kept forever, and so raises the limit.
+    /// Appends the statistics of the next lemma, which has one literal. It is never deleted, so the limit is raised by 1.
     pub(crate) fn learn_unit(&mut self) -> Result<(), AllocError> {
         self.most = self.most.saturating_add(1);
         self.learn(1)
     }
 
-    /// The LBD of a clause; 0 if it is no lemma.
-    fn levels_of(&self, number: u64) -> u8 {
+    /// The LBD of the clause of this number; 0 if the clause is no lemma.
+    fn lbd_of(&self, number: u64) -> u8 {
         match number.checked_sub(self.first) {
             Some(place) => match self.levels.get(place as usize) {
                 Some(&levels) => levels,
@@ -105,13 +108,14 @@ impl LemmaStats {
         }
     }
 
-    /// Whether a lemma's LBD allows its deletion.
+    /// Whether the LBD of the clause of this number allows its deletion: lemmas of low LBD are kept
+    /// for good. False if the clause is no lemma.
     pub(crate) fn may_go(&self, number: u64) -> bool {
-        self.levels_of(number) > FEW_LEVELS
+        self.lbd_of(number) > FEW_LEVELS
     }
 
-    /// Updates the LBDs of the clauses that an analysis used, if they are lower now. Those that are kept forever are not counted again.
-    pub(crate) fn count_levels(
+    /// Lowers the LBD of each lemma that an analysis used to the present one, if that is less. Lemmas that are never deleted are left out.
+    pub(crate) fn lower_lbds(
         &mut self,
         levels: &mut LbdCounter,
         arena: &Arena,
@@ -121,15 +125,15 @@ impl LemmaStats {
         requires { AreInside (live_of arena.now) trail.now.vars }
     {
         for &number in met {
-            let most = self.levels_of(number);
+            let most = self.lbd_of(number);
             if most > FEW_LEVELS {
-                self.lower(number, count_of(levels, arena, trail, number, most));
+                self.set_lbd(number, lbd_up_to(levels, arena, trail, number, most));
             }
         }
     }
 
-    /// Sets the LBD of a lemma.
-    fn lower(&mut self, number: u64, levels: u8) {
+    /// Sets the LBD of the lemma of this number; nothing changes if the clause is no lemma.
+    fn set_lbd(&mut self, number: u64, levels: u8) {
         if let Some(place) = number.checked_sub(self.first) {
             if let Some(kept) = self.levels.get_mut(place as usize) {
                 *kept = levels;
@@ -137,7 +141,7 @@ impl LemmaStats {
         }
     }
 
-    /// The limit of live lemmas.
+    /// The limit of live lemmas: the next reduction comes above it.
     pub(crate) fn most(&self) -> usize
         ensures { 2000 ≤ result }
     {
@@ -145,7 +149,7 @@ impl LemmaStats {
     }
 
     /// Sets the limit after a reduction that deletes `gone` of `live` lemmas. Half of the candidates are deleted, so `live - 2 * gone`
-    /// were no candidates; the limit is that number, and what is allowed beside them.
+    /// lemmas were no candidates; the limit is their number, and what is allowed beside them.
     pub(crate) fn note_reduction(&mut self, live: usize, gone: usize) {
         self.reductions = self.reductions.saturating_add(1);
         let more = self.reductions.saturating_mul(self.more);
@@ -155,7 +159,7 @@ impl LemmaStats {
             .saturating_add(more);
     }
 
-    /// The place of a clause in the tables, if it is a lemma.
+    /// The index of the clause of this number in the tables; None if the clause is no lemma.
     fn place_of(&self, number: u64) -> Option<usize>
         ensures { IfSome result (λ place. place < length self.now.counts.items) }
     {
@@ -167,7 +171,7 @@ impl LemmaStats {
         }
     }
 
-    /// Counts a use of each of these clauses.
+    /// Counts a use of each lemma among the clauses of these numbers, which an analysis has met.
     pub(crate) fn count(&mut self, met: &[u64]) {
         for &number in met {
             if let Some(place) = self.place_of(number) {
@@ -176,7 +180,7 @@ impl LemmaStats {
         }
     }
 
-    /// Halves the counts of these lemmas if it is due.
+    /// Halves the use counts of these lemmas if `is_due` is true, so that recent uses count more.
     pub(crate) fn halve_if(&mut self, is_due: bool, lemmas: &[u64]) {
         if !is_due {
             return;
@@ -188,7 +192,7 @@ impl LemmaStats {
         }
     }
 
-    /// The rank of a lemma for deletion: fewer uses first, and of equal uses the older first.
+    /// The rank of a lemma for deletion, the least is deleted first: by uses, and of equal uses the older first.
     fn rank_of(&self, number: u64) -> u64 {
         match self.place_of(number) {
             Some(place) => (self.counts[place] as u64) << 48 | number,
@@ -196,7 +200,7 @@ impl LemmaStats {
         }
     }
 
-    /// The median rank of these lemmas: half of them, rounded down, are below it.
+    /// The median rank of these lemmas: half of them, rounded down, are below it; 0 if there are none.
     fn middle_of(&self, alloc: Global, lemmas: &[u64]) -> Result<u64, AllocError> {
         let mut ranks = Vec::with_capacity(alloc, lemmas.len())?;
         for &number in lemmas {
@@ -209,7 +213,7 @@ impl LemmaStats {
         })
     }
 
-    /// The least used half of these lemmas, rounded down.
+    /// The half of these lemmas, rounded down, that is used least, in their order.
     pub(crate) fn least_used(&self, alloc: Global, lemmas: &[u64]) -> Result<Vec<u64>, AllocError>
         requires { AreRising lemmas.now }
         ensures rising { IfOk result (λ ids. AreRising ids.items) }

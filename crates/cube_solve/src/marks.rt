@@ -1,4 +1,4 @@
-//! Marks of literals.
+//! Marks of literals, all of which are cleared at once.
 
 ghost use Rattle.std.specs.Prelude.{◌≡◌, ◌+◌, ◌<◌, true, false, [], ◌∷◌, ◌++◌, length, filter, nat_eq, slice_index_or, All, IfOk, OnOk};
 ghost use Rattle.dimacs.specs.logic.Literal.{IsWithin, index_of};
@@ -12,11 +12,14 @@ use std::alloc::{AllocError, Global};
 /// A stamp for each literal, at its index. A literal is marked if its stamp is the present one, so that a new stamp clears all marks.
 #[derive(Drop)]
 pub(crate) struct Marks {
+    /// By index of the literal.
     pub(crate) stamps: Vec<u32>,
+    /// The present stamp.
     pub(crate) stamp: u32,
 }
 
-/// Whether a literal is marked.
+/// Whether a literal is marked: it has the present stamp. A literal outside the table has the stamp
+/// 0.
 fn is_marked(marks: &Marks, literal: Lit) -> bool
     ensures { result ≡ nat_eq (slice_index_or marks.now.stamps.items (index_of literal) 0) marks.now.stamp }
 {
@@ -26,7 +29,7 @@ fn is_marked(marks: &Marks, literal: Lit) -> bool
     }
 }
 
-/// Pushes a literal if it is to be kept.
+/// Appends a literal to `literals` if `kept` is true. A function of its own, for its contract.
 fn keep_if(kept: bool, literal: Lit, literals: &mut Vec<Lit>) -> Result<(), AllocError>
     ensures yes { OnOk result (kept ≡ true → literals.new.items ≡ literals.old.items ++ literal ∷ []) }
     ensures no { OnOk result (kept ≡ false → literals.new.items ≡ literals.old.items) }
@@ -37,7 +40,7 @@ fn keep_if(kept: bool, literal: Lit, literals: &mut Vec<Lit>) -> Result<(), Allo
     Ok(())
 }
 
-/// The marked literals among these, in their order.
+/// The literals of this list that are marked, in their order.
 pub(crate) fn marked_of(
     alloc: Global,
     marks: &Marks,
@@ -64,7 +67,7 @@ impl Marks {
         })
     }
 
-    /// Clears all marks: takes a stamp that no literal has.
+    /// Clears all marks: takes a stamp that no literal has, which is at least 1.
     fn renew(&mut self) -> Result<(), AllocError>
         requires { All (λ s. s < self.old.stamp + 1) self.old.stamps.items }
         ensures some { OnOk result (0 < self.new.stamp) }
@@ -81,7 +84,7 @@ impl Marks {
         Ok(())
     }
 
-    /// Marks exactly the literals of a clause, and writes them to `kept`, each once, in the order of their first occurrences.
+    /// Marks exactly the literals of a clause, and appends them to the empty `kept`, each once, in the order of their first occurrences.
     pub(crate) fn mark(
         &mut self,
         vars: u32,

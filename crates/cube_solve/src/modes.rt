@@ -1,6 +1,6 @@
-//! Mode switching: focused and stable phases by turns, and the restarts and rephasings of each (Biere and Fröhlich 2019).
+//! Modes of a search: focused and stable phases by turns, and the restarts and rephasings of each (Biere and Fröhlich 2019).
 //!
-//! No promise rests on what is answered here.
+//! No promise rests on the answers of this file.
 
 use crate::luby::Luby;
 use crate::moving_average::MovingAverage;
@@ -18,8 +18,8 @@ const BETWEEN_RESTARTS: u64 = 2;
 /// A focused phase restarts if the fast average of LBDs is above this percentage of the slow one.
 const MARGIN: u64 = 110;
 
-/// Conflicts of a stable phase that count as one for the Luby sequence, whose terms are times 100: so restarts come after 1,000 times the
-/// terms.
+/// This many conflicts of a stable phase count as one for the Luby sequence, whose terms are times 100: so restarts come after 1,000 times
+/// the terms.
 const STABLE_UNIT: u64 = 10;
 
 /// A formula is dense if it has at least this many clauses a variable. Formulas of circuits have fewer.
@@ -28,19 +28,19 @@ const DENSE: u64 = 4;
 /// Conflicts are shallow if their level is at most this one, on average.
 const SHALLOW: u64 = 50;
 
-/// Lemmas are wide if the sum of their LBDs is at least this part (a quarter) of the sum of their conflicts' levels.
+/// Lemmas are wide if the sum of their LBDs is at least the sum of their conflicts' levels, divided by this number.
 const WIDE_PART: u64 = 4;
 
-/// Rephasing number n comes n times this many conflicts after the one before.
+/// Rephasing number n comes n times this many conflicts after the last one.
 const BETWEEN_REPHASINGS: u64 = 1000;
 
 /// The next step of a search after a conflict.
 pub(crate) enum AfterConflict {
-    /// Go on.
+    /// Go on with the search.
     Continue,
     /// Backtrack to the levels of assumptions.
     Restart,
-    /// Backtrack to level 0, and begin the other mode, which decides by scores or not.
+    /// Backtrack to level 0, and begin the other mode; true if it decides by scores.
     SwitchMode(bool),
     /// Backtrack to level 0, and reset the saved values.
     Rephase(Rephase),
@@ -50,32 +50,40 @@ pub(crate) enum AfterConflict {
 /// instead of seconds, so that a search is the same on every machine.
 #[derive(Drop)]
 pub(crate) struct Modes {
+    /// Whether the present phase is stable; else it is focused.
     is_stable: bool,
+    /// Whether the formula is dense.
     is_dense: bool,
     /// Whether focused phases decide by scores too.
     by_scores: bool,
+    /// The number of conflicts so far.
     conflicts: u64,
-    /// Of the first phase: the sum of the lemmas' LBDs, and the sum of the levels of their conflicts.
+    /// The sum of the LBDs of the first phase's lemmas.
     levels: u64,
+    /// The sum of the levels of the first phase's conflicts.
     depths: u64,
     /// The number of conflicts at the last restart.
     restarted: u64,
-    /// Moving averages of the LBDs of lemmas: a fast and a slow one.
+    /// The fast moving average of the LBDs of lemmas.
     fast: MovingAverage,
+    /// The slow moving average of the LBDs of lemmas.
     slow: MovingAverage,
-    /// The restarts of a stable phase.
+    /// The schedule of restarts in a stable phase.
     pace: Luby,
-    /// The number of phases before this one, the ticks of the first one, and the ticks at which this one ends.
+    /// The number of phases before the present one.
     phases: u64,
+    /// The number of ticks in the first phase, at least 1 if that is over.
     first_ticks: u64,
+    /// The number of ticks at which the present phase ends; the first one ends by conflicts.
     end: u64,
-    /// The number of rephasings so far, and of conflicts at the next one.
+    /// The number of rephasings so far.
     rephasings: u64,
+    /// The number of conflicts at the next rephasing.
     next_rephasing: u64,
 }
 
 impl Modes {
-    /// The schedule for a formula of so many clauses and variables. The first phase is focused, and decides by the queue.
+    /// The schedule for a formula of this many clauses and variables. The first phase is focused, and decides by the queue.
     pub(crate) fn new(clauses: u64, vars: u32) -> Modes {
         Modes {
             is_stable: false,
@@ -96,15 +104,16 @@ impl Modes {
         }
     }
 
-    /// Counts a conflict at level `depth`, whose lemma has the LBD `levels`.
+    /// Counts a conflict at level `depth`, whose lemma has the LBD `levels`: the moving averages
+    /// that decide restarts take the LBD.
     pub(crate) fn learn(&mut self, levels: u8, depth: u32) {
         self.conflicts = self.conflicts.saturating_add(1);
         if self.phases == 0 {
             self.levels = self.levels.saturating_add(levels as u64);
             self.depths = self.depths.saturating_add(depth as u64);
         }
-        self.fast.take(levels as u32);
-        self.slow.take(levels as u32);
+        self.fast.add(levels as u32);
+        self.slow.add(levels as u32);
         if self.is_stable && self.conflicts % STABLE_UNIT == 0 {
             self.pace.count();
         }
@@ -115,10 +124,10 @@ impl Modes {
         self.conflicts % 256 == 0
     }
 
-    /// The next step after a conflict, with so many ticks so far.
+    /// Chooses the next step after a conflict; `ticks` is the number of ticks so far. Begins the next phase if this one is over.
     pub(crate) fn after_conflict(&mut self, ticks: u64) -> AfterConflict {
         if self.is_over(ticks) {
-            self.change(ticks);
+            self.begin_phase(ticks);
             return AfterConflict::SwitchMode(self.is_stable || self.by_scores);
         }
         if self.is_stable && self.conflicts >= self.next_rephasing {
@@ -132,7 +141,8 @@ impl Modes {
         AfterConflict::Continue
     }
 
-    /// Whether the phase is over.
+    /// Whether the present phase is over: the first one by its number of conflicts, later ones by
+    /// `ticks`, which measure the work.
     fn is_over(&self, ticks: u64) -> bool {
         if self.phases == 0 {
             self.conflicts >= FIRST_PHASE
@@ -149,8 +159,8 @@ impl Modes {
             && self.levels.saturating_mul(WIDE_PART) >= self.depths
     }
 
-    /// Begins the next phase. The lengths grow with the square of the phase's number.
-    fn change(&mut self, ticks: u64) {
+    /// Begins the next phase at this number of ticks. The lengths grow with the square of the phase's number.
+    fn begin_phase(&mut self, ticks: u64) {
         if self.phases == 0 {
             self.first_ticks = ticks.max(1);
             self.by_scores = self.is_flat();
@@ -167,7 +177,7 @@ impl Modes {
         self.end = ticks.saturating_add(length);
     }
 
-    /// Whether a restart is due. In a stable phase, this schedules the next one too.
+    /// Whether a restart is due. If it is, a stable phase schedules its next one.
     fn restarts(&mut self) -> bool {
         if self.is_stable {
             return self.pace.restarts();
@@ -177,7 +187,7 @@ impl Modes {
         since >= BETWEEN_RESTARTS && fast > self.slow.value().saturating_mul(MARGIN)
     }
 
-    /// The kind of the next rephasing: first, flipped, and then best, first, best, flipped by turns.
+    /// Chooses the kind of the next rephasing: first, flipped, and then best, first, best, flipped by turns. Schedules the one after it.
     fn rephase(&mut self) -> Rephase {
         let number = self.rephasings;
         self.rephasings = self.rephasings.saturating_add(1);

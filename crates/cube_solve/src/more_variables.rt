@@ -1,4 +1,4 @@
-//! Growing a session to more variables.
+//! More variables for a session: the same clauses and lemmas in a new search.
 
 ghost use Rattle.std.specs.Prelude.{◌≡◌, ℕ, ◌+◌, ◌<◌, ◌≤◌, ◌^◌, List, [], All, IfOk, OnOk};
 ghost use Rattle.clause_arena.specs.Clauses.{live_of};
@@ -20,7 +20,7 @@ use dimacs::Builder;
 use std::alloc::AllocError;
 use watches::Propagator;
 
-/// Copies the live clause of a number from another search, if there is one.
+/// Copies the live clause of this number from `arena` into `search`; nothing changes if there is none.
 fn copy_clause<P: Propagator>(
     search: &mut Search<'_, P>,
     arena: &Arena,
@@ -42,7 +42,7 @@ fn copy_clause<P: Propagator>(
     }
 }
 
-/// Copies the live clauses of another search, whose numbers are at most `top`.
+/// Copies the live clauses of `arena` into `search`, which has no clause yet. Their numbers are at most `top`.
 fn copy_clauses<P: Propagator>(
     search: &mut Search<'_, P>,
     arena: &Arena,
@@ -67,7 +67,8 @@ fn copy_clauses<P: Propagator>(
     Ok(())
 }
 
-/// A search over more variables, with the clauses and saved values of another one. Scores start at 0.
+/// Makes a search over the variables from 1 to `vars` for a session that needs more of them: with
+/// the clauses, lemmas, log and saved values of `old`. Scores start at 0.
 fn search_of<'b, P: Propagator>(
     mut old: Search<'_, P>,
     top: u64,
@@ -79,7 +80,7 @@ fn search_of<'b, P: Propagator>(
     requires bounded { top ≤ 2 ^ 47 }
     requires free { P.attached propagator.old ≡ [] }
     requires more { old.state.trail.vars ≤ vars }
-    requires limit { vars ≤ 1000000 }
+    requires limit { vars ≤ 99999999 }
     ensures steady { IfOk result (λ s. IsSteady P.is_ready P.attached s.state) }
     ensures noted { IfOk result (λ s. AreNoted (live_of s.state.arena) s.units.numbers.items) }
     ensures vars { IfOk result (λ s. s.state.trail.vars ≡ vars) }
@@ -97,13 +98,13 @@ fn search_of<'b, P: Propagator>(
 }
 
 impl<P: Propagator> Session<'_, P> {
-    /// The session over the variables from 1 to `vars`, with the same clauses, lemmas and saved values; scores start at 0. The
-    /// propagator has no clause yet. It takes time linear in the greatest number of a clause so far.
+    /// Makes a session over the variables from 1 to `vars` of this one: it has the same clauses, lemmas and saved values; scores start at
+    /// 0. The propagator has no clause yet. The time is linear in the greatest number of a clause so far.
     pub fn grown<'b>(self, propagator: &'b mut P, vars: u32) -> Result<Session<'b, P>, AllocError>
         requires ready { IsReady P.is_ready P.attached self }
         requires free { P.attached propagator.old ≡ [] }
         requires more { vars_of self ≤ vars }
-        requires limit { vars ≤ 1000000 }
+        requires limit { vars ≤ 99999999 }
         ensures ready { IfOk result (IsReady P.is_ready P.attached) }
         ensures given { IfOk result (λ s. (F : List Clause) → AreGiven F self.entry → AreGiven F s) }
         ensures vars { IfOk result (λ s. vars_of s ≡ vars) }

@@ -23,7 +23,7 @@ use dimacs::Lit;
 use std::alloc::{AllocError, Global};
 use watches::Propagator;
 
-/// The result of the search under a query.
+/// The result of the search under a query, before its answer is made.
 #[derive(Drop)]
 pub(crate) enum QueryResult {
     /// Each variable has a value, and no clause is false.
@@ -34,7 +34,8 @@ pub(crate) enum QueryResult {
     Limit,
 }
 
-/// The tautology of a literal and its negation, which needs no hint.
+/// The lemma of a literal and its negation: a tautology, which needs no hint. It is the core's
+/// clause if a query has both literals.
 fn pair(alloc: Global, literal: Lit) -> Result<Lemma, AllocError>
     ensures lits { IfOk result (λ lemma. lemma.lits.items ≡ literal ∷ negation literal ∷ []) }
     ensures hints { IfOk result (λ lemma. lemma.hints.items ≡ []) }
@@ -45,7 +46,7 @@ fn pair(alloc: Global, literal: Lit) -> Result<Lemma, AllocError>
     Ok(lemma)
 }
 
-/// The negations of literals.
+/// The negations of a lemma's literals, in their order: what of a query the lemma refutes.
 fn negated(alloc: Global, literals: &[Lit]) -> Result<Vec<Lit>, AllocError>
     ensures { IfOk result (λ others. others.items ≡ map negation literals.now) }
 {
@@ -57,7 +58,8 @@ fn negated(alloc: Global, literals: &[Lit]) -> Result<Vec<Lit>, AllocError>
 }
 
 impl<P: Propagator> Session<'_, P> {
-    /// The lemma of a false assumption: a tautology if its negation is an assumption too, else the lemma of final analysis.
+    /// The lemma of a query's literal that is false: a tautology if the literal's negation was assumed too, else the lemma of final
+    /// analysis.
     fn refute_assumption(&self, literal: Lit) -> Result<Lemma, AllocError>
         requires ready { IsReady P.is_ready P.attached self.now }
         requires is_false { holds self.now.search.state.trail.entries (negation literal) ≡ true }
@@ -83,7 +85,7 @@ impl<P: Propagator> Session<'_, P> {
         }
     }
 
-    /// The lemma of a false clause, if all levels are those of assumptions.
+    /// The lemma of the false clause of this number, which shows that the query fails. Each level of the trail is one of assumptions.
     fn refute_clause(&self, number: u64) -> Result<Lemma, AllocError>
         requires ready { IsReady P.is_ready P.attached self.now }
         requires conflict { IsConflict (live_of self.now.search.state.arena) self.now.search.state.trail.entries number }
@@ -100,7 +102,8 @@ impl<P: Propagator> Session<'_, P> {
         Ok(lemma)
     }
 
-    /// Learns one lemma. If it is the conflict's, restarts and reduces if due.
+    /// Learns one lemma under the next clause number. If it is the lemma of the conflict, restarts and reduces if due. It fails after
+    /// number 2^47.
     fn handle_conflict(&mut self, conflict: u64) -> Result<(), AllocError>
         requires ready { IsReady P.is_ready P.attached self.old }
         requires conflict { IsConflict (live_of self.old.search.state.arena) self.old.search.state.trail.entries conflict }
@@ -121,7 +124,7 @@ impl<P: Propagator> Session<'_, P> {
         Ok(())
     }
 
-    /// Backtracks to level 0, and drops all assumptions.
+    /// Backtracks to level 0, and drops the assumptions of the last query.
     fn begin(&mut self)
         requires { IsReady P.is_ready P.attached self.old }
         ensures ready { IsReady P.is_ready P.attached self.new }
@@ -150,7 +153,8 @@ impl<P: Propagator> Session<'_, P> {
         self.search.state.descend(query)
     }
 
-    /// Searches for an assignment under a query without repeats, with at most `limit` lemmas.
+    /// Searches for an assignment that satisfies the clauses and makes a query true, with at most `limit` new lemmas. The query repeats no
+    /// literal. After clause number 2^47 it is an error.
     fn search_query(&mut self, query: &[Lit], limit: u64) -> Result<QueryResult, AllocError>
         requires ready { IsReady P.is_ready P.attached self.old }
         requires within { All (IsWithin (vars_of self.old)) query.now }
@@ -186,7 +190,7 @@ impl<P: Propagator> Session<'_, P> {
         }
     }
 
-    /// The literals of a query, each once, in its order.
+    /// Collects the literals of a query, each once, in the order of their first occurrences, and marks them.
     fn without_repeats(&mut self, query: &[Lit]) -> Result<Vec<Lit>, AllocError>
         requires ready { IsReady P.is_ready P.attached self.old }
         requires within { All (IsWithin (vars_of self.old)) query.now }
@@ -205,7 +209,7 @@ impl<P: Propagator> Session<'_, P> {
         Ok(kept)
     }
 
-    /// The literals of a query whose negations are in a clause. The query has no repeats.
+    /// Collects the core: the literals of a query whose negations are in a clause, in the query's order. The query repeats no literal.
     fn core_of(&mut self, query: &[Lit], clause: &[Lit]) -> Result<Vec<Lit>, AllocError>
         requires ready { IsReady P.is_ready P.attached self.old }
         requires within { All (IsWithin (vars_of self.old)) clause.now }
@@ -223,8 +227,8 @@ impl<P: Propagator> Session<'_, P> {
         Ok(core)
     }
 
-    /// Asks for an assignment that satisfies the clauses so far and makes the literals of a query true, with at most `limit` more lemmas.
-    /// The lemmas are kept, whatever the answer is. The query may repeat literals, and may have a literal and its negation.
+    /// Searches for an assignment that satisfies the clauses so far and makes the literals of a query true, with at most `limit` more
+    /// lemmas. The lemmas are kept, whatever the answer is. The query may repeat literals, and may have a literal and its negation.
     ///
     /// There is an error if memory is refused, or after 2^47 clauses and lemmas. After an error, nothing is known of the session.
     pub fn ask(&mut self, query: &[Lit], limit: u64) -> Result<Answer, AllocError>

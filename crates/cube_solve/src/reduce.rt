@@ -1,4 +1,4 @@
-//! Reduction of the learnt clauses: deletes the least used half of the lemmas that may be deleted.
+//! Reduction of the lemmas: deletes the least used half of those that may be deleted.
 
 ghost use Rattle.std.specs.Prelude.{◌≡◌, ℕ, ◌+◌, ◌<◌, [], ◌∷◌, ◌++◌, ◌⊎◌, Some, is_some, length, All, Contains, IfOk, OnOk, filter};
 ghost use Rattle.std.specs.Bool.{OnTrue, OnFalse};
@@ -21,7 +21,7 @@ use dimacs::Lit;
 use std::alloc::{AllocError, Global};
 use watches::{Assigned, Propagator, Trail, Truth};
 
-/// Whether an entry has this reason.
+/// Whether the reason of an entry is the clause of this number.
 fn has_reason(entry: Assigned, number: u64) -> bool
     ensures { OnFalse result (¬ (entry.reason ≡ Some number)) }
 {
@@ -31,7 +31,7 @@ fn has_reason(entry: Assigned, number: u64) -> bool
     }
 }
 
-/// Whether a literal is true by this reason.
+/// Whether a literal is true on the trail, and the clause of this number is its reason.
 fn is_implied_by(trail: &Trail, literal: Lit, number: u64) -> bool
     requires { IsWithin trail.now.vars literal }
     ensures { OnFalse result ((e : Assigned) → Contains trail.now.entries e → e.literal ≡ literal → ¬ (e.reason ≡ Some number)) }
@@ -44,7 +44,7 @@ fn is_implied_by(trail: &Trail, literal: Lit, number: u64) -> bool
     }
 }
 
-/// Whether a clause is the reason of one of its literals.
+/// Whether a clause, whose number is `number`, is the reason of one of its literals.
 fn is_reason(trail: &Trail, clause: &[Lit], number: u64) -> bool
     requires { All (IsWithin trail.now.vars) clause.now }
     ensures { OnFalse result ((e : Assigned) → Contains trail.now.entries e → Contains clause.now e.literal → ¬ (e.reason ≡ Some number)) }
@@ -57,7 +57,7 @@ fn is_reason(trail: &Trail, clause: &[Lit], number: u64) -> bool
     false
 }
 
-/// Whether a clause may be deleted: it has three or more literals and is no reason.
+/// Whether the clause of this number may be deleted: it is live, has three or more literals, and is no reason.
 fn is_deletable(arena: &Arena, trail: &Trail, number: u64) -> bool
     requires built { AreBuilt (live_of arena.now) [] trail.now.entries }
     requires inside { AreInside (live_of arena.now) trail.now.vars }
@@ -72,7 +72,7 @@ fn is_deletable(arena: &Arena, trail: &Trail, number: u64) -> bool
     }
 }
 
-/// Pushes the number of a lemma if its LBD and `is_deletable` allow its deletion.
+/// Appends the number of a lemma to `spare` if its LBD and `is_deletable` allow its deletion.
 fn push_deletable(
     arena: &Arena,
     trail: &Trail,
@@ -91,7 +91,8 @@ fn push_deletable(
     Ok(())
 }
 
-/// The candidates: lemmas of three or more literals that are no reasons, and whose LBD allows their deletion.
+/// The candidates among these lemmas, in their order: they have three or more literals, are no reasons, and their LBDs allow their
+/// deletion.
 fn deletable_lemmas(
     alloc: Global,
     arena: &Arena,
@@ -113,7 +114,7 @@ fn deletable_lemmas(
     Ok(spare)
 }
 
-/// The least used half of the candidates.
+/// The least used half of the candidates among these lemmas, rounded down, in their order.
 fn least_used(
     alloc: Global,
     arena: &Arena,
@@ -133,7 +134,7 @@ fn least_used(
     Ok(least)
 }
 
-/// Detaches and removes a clause that is no reason.
+/// Detaches the clause of this number, which is no reason, and removes it from the arena.
 fn delete_clause<P: Propagator>(propagator: &mut P, arena: &mut Arena, trail: &Trail, number: u64)
     requires ready { P.is_ready propagator.old arena.old trail.now }
     requires state { IsState (P.attached propagator.old) arena.old trail.now }
@@ -151,7 +152,7 @@ fn delete_clause<P: Propagator>(propagator: &mut P, arena: &mut Arena, trail: &T
     }
 }
 
-/// Detaches and removes clauses that are no reasons.
+/// Detaches the clauses of these numbers, which are no reasons, and removes them from the arena.
 fn delete_clauses<P: Propagator>(
     propagator: &mut P,
     arena: &mut Arena,
@@ -171,7 +172,7 @@ fn delete_clauses<P: Propagator>(
     }
 }
 
-/// Whether a number is live.
+/// Whether a live clause has this number.
 fn is_live(arena: &Arena, number: u64) -> bool
     ensures { result ≡ is_some (get arena.now number) }
 {
@@ -181,14 +182,14 @@ fn is_live(arena: &Arena, number: u64) -> bool
     }
 }
 
-/// Removes the numbers of clauses that are not live.
+/// Removes the numbers without a live clause from `lemmas`.
 fn keep_live(arena: &Arena, lemmas: &mut Vec<u64>)
     ensures { lemmas.new.items ≡ filter (λ n. is_some (get arena.now n)) lemmas.old.items }
 {
     lemmas.retain(|number| is_live(arena, *number));
 }
 
-/// Compacts the arena if it is due.
+/// Compacts the arena if `due` is true, and hands the clauses' new references to the propagator.
 fn compact_if_due<P: Propagator>(
     alloc: Global,
     due: bool,
@@ -212,7 +213,8 @@ fn compact_if_due<P: Propagator>(
 }
 
 impl<P: Propagator> Search<'_, P> {
-    /// Deletes the least used half of the candidates, in one line of the log.
+    /// Deletes the least used half of the candidates, in one line of the log that begins with `top`. If there is none to delete, only the
+    /// limit of lemmas changes.
     pub(crate) fn reduce(&mut self, top: u64) -> Result<(), AllocError>
         requires steady { IsSteady P.is_ready P.attached self.old.state }
         requires rising { AreRising self.old.lemmas.items }

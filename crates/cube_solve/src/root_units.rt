@@ -19,7 +19,7 @@ use dimacs::Lit;
 use std::alloc::AllocError;
 use watches::{Trail, Truth};
 
-/// Whether a literal is of a variable of the trail.
+/// Whether the variable of a literal is one of the trail's.
 fn is_within(trail: &Trail, literal: Lit) -> bool
     ensures { OnTrue result (IsWithin trail.now.vars literal) }
 {
@@ -27,7 +27,7 @@ fn is_within(trail: &Trail, literal: Lit) -> bool
     0 < number && number <= trail.vars()
 }
 
-/// The reason of a literal that is true at level 0.
+/// The number of the reason of a literal that is true at level 0; None if the literal is not, or if it has no reason.
 fn reason_of(trail: &Trail, literal: Lit) -> Option<u64>
     requires { IsWithin trail.now.vars literal }
     ensures { IfSome result (λ n. up_to trail.now.entries 0 literal ≡ true) }
@@ -46,8 +46,8 @@ fn reason_of(trail: &Trail, literal: Lit) -> Option<u64>
 }
 
 impl UnitClauses {
-    /// Appends the hint that makes a literal of a reason false: the number of the unit clause of its negation. The literal that the reason
-    /// implied needs none. Returns false if there is no such clause.
+    /// Appends the hint that makes `other` false, a literal of the reason of `literal`: the number of a live unit clause of its negation.
+    /// If the two are the same, no hint is needed. Returns false if `other` is not false or there is no such clause.
     fn push_hint_for(
         &self,
         arena: &Arena,
@@ -79,7 +79,8 @@ impl UnitClauses {
         }
     }
 
-    /// Appends hints that make all literals of a reason false except `literal`. Returns false if one has no unit clause.
+    /// Appends the hints that make each literal of a reason false, except `literal`. Returns false if one of them is not false by a live
+    /// unit clause.
     fn push_hints(
         &self,
         arena: &Arena,
@@ -101,7 +102,8 @@ impl UnitClauses {
         Ok(true)
     }
 
-    /// Makes the unit lemma of a literal, from the clause that implied it. Returns whether it could.
+    /// Overwrites `lemma` with the unit lemma of `literal`, from its reason, to which `at` refers. Returns false, and leaves `lemma`
+    /// incomplete, if another literal of the reason is not false by a live unit clause.
     fn make_from_reason(
         &self,
         arena: &Arena,
@@ -128,9 +130,9 @@ impl UnitClauses {
         Ok(true)
     }
 
-    /// Overwrites `lemma` with the unit lemma of a literal, if the literal is true at level 0, has no live unit clause, and each other
-    /// literal of its reason is false by a unit clause. Returns whether it did.
-    fn write(
+    /// Overwrites `lemma` with the unit lemma of a literal that is true at level 0. Returns false if the literal is not, if a unit clause
+    /// of its variable is noted, or if another literal of its reason is not false by a live unit clause.
+    fn write_unit(
         &self,
         arena: &Arena,
         trail: &Trail,
@@ -153,7 +155,7 @@ impl UnitClauses {
     }
 }
 
-/// Makes the unit lemma of the next wanted literal that can have one, and returns that literal.
+/// Pops wanted literals until one can have a unit lemma. Overwrites `lemma` with it and returns the literal; None if none can.
 pub(crate) fn make_next_unit(
     wanted: &mut Vec<Lit>,
     units: &UnitClauses,
@@ -165,14 +167,14 @@ pub(crate) fn make_next_unit(
     ensures { IfOk result (λ next. IfSome next (λ l. IsRootUnitLemma (live_of arena.now) trail.now units.now.numbers.items l lemma.new)) }
 {
     while let Some(literal) = wanted.pop() {
-        if units.write(arena, trail, literal, lemma)? {
+        if units.write_unit(arena, trail, literal, lemma)? {
             return Ok(Some(literal));
         }
     }
     Ok(None)
 }
 
-/// The first true literal of a clause, if it is implied at level 0.
+/// The first true literal of a clause, if it is true at level 0 by a reason; else None.
 fn true_in(trail: &Trail, clause: &[Lit]) -> Option<Lit>
     requires { All (IsWithin trail.now.vars) clause.now }
 {
@@ -187,7 +189,7 @@ fn true_in(trail: &Trail, clause: &[Lit]) -> Option<Lit>
     None
 }
 
-/// The literal that the clause of a number implied, if that was at level 0.
+/// The literal that the clause of this number implied at level 0; None if there is none.
 fn implied_by(arena: &Arena, trail: &Trail, number: u64) -> Option<Lit>
     requires { AreInside (live_of arena.now) trail.now.vars }
 {
@@ -197,8 +199,8 @@ fn implied_by(arena: &Arena, trail: &Trail, number: u64) -> Option<Lit>
     }
 }
 
-/// Lists the literals of level 0 that have no unit clause and were implied by a lemma's hints, in reverse trail order. Hints are in trail
-/// order, so these are the first ones.
+/// Overwrites `wanted` with literals that a lemma's hints implied at level 0 and whose variables have no noted unit clause, in reverse
+/// trail order. Hints are in trail order, so only the first ones are read, up to the first that implied no literal at level 0.
 pub(crate) fn list_root_literals(
     wanted: &mut Vec<Lit>,
     units: &UnitClauses,

@@ -14,19 +14,21 @@ pub(crate) enum Rephase {
     First,
     /// True.
     Flipped,
-    /// The best values: those of the longest trail without a conflict since the last such rephasing.
+    /// The best values, those of the longest trail without a conflict since the last rephasing of this kind.
     Best,
 }
 
-/// The values of the longest trail without a conflict, since the last reset.
+/// The values of the longest trail without a conflict since the last reset.
 #[derive(Drop)]
 struct Longest {
+    /// The number of entries of that trail; 0 after a reset.
     len: usize,
-    /// By variable.
+    /// By variable; `Free` if that trail did not assign it. In the best values, after a reset, the ones before stay until a trail is noted.
     values: Vec<Truth>,
 }
 
 impl Longest {
+    /// Values of no trail, for the variables from 1 to `vars`.
     fn new(alloc: Global, vars: u32) -> Result<Longest, AllocError> {
         Ok(Longest {
             len: 0,
@@ -34,6 +36,7 @@ impl Longest {
         })
     }
 
+    /// The value of a variable; `Free` if there is none.
     fn of(&self, var: Var) -> Truth {
         match self.values.get(var.number() as usize) {
             Some(&value) => value,
@@ -41,7 +44,8 @@ impl Longest {
         }
     }
 
-    /// Takes the values of the first `len` entries of a trail, if no longer trail was noted.
+    /// Takes the values of the first `len` entries of a trail, if `len` is greater than at each
+    /// call since the last reset: the longest trail so far.
     fn note(&mut self, trail: &Trail, len: usize) {
         if len <= self.len {
             return;
@@ -59,6 +63,7 @@ impl Longest {
         }
     }
 
+    /// Forgets all values, and resets the length, so that the next trail counts as the longest.
     fn clear(&mut self) {
         self.len = 0;
         for value in self.values.iter_mut() {
@@ -67,8 +72,8 @@ impl Longest {
     }
 }
 
-/// The number of entries below the present level, which have no conflict.
-fn settled(trail: &Trail) -> usize {
+/// The number of entries below the present level, whose propagation met no conflict.
+fn entries_below_level(trail: &Trail) -> usize {
     let entries = trail.entries();
     let level = trail.level();
     let mut len = entries.len();
@@ -81,15 +86,19 @@ fn settled(trail: &Trail) -> usize {
     0
 }
 
-/// The last value of each variable, false at first, and the values of long trails (target and best phases, Biere and Fleury 2020).
+/// For each variable, its last value and its values on long trails (target and best phases, Biere and Fleury 2020).
 #[derive(Drop)]
 pub(crate) struct SavedPhases {
+    /// By variable; false at first.
     last: Vec<bool>,
+    /// The values of the longest trail since the last rephasing, tried first in stable mode.
     target: Longest,
+    /// The values of the longest trail since the last rephasing to the best values.
     best: Longest,
 }
 
 impl SavedPhases {
+    /// The saved values of the variables from 1 to `vars`: each last value is false.
     pub(crate) fn new(alloc: Global, vars: u32) -> Result<SavedPhases, AllocError> {
         Ok(SavedPhases {
             last: vec![in alloc; false; vars as usize + 1]?,
@@ -98,7 +107,7 @@ impl SavedPhases {
         })
     }
 
-    /// The value with which a variable is decided.
+    /// The value to try first if a variable is decided: its target value in stable mode if there is one, else its last value.
     pub(crate) fn of(&self, var: Var, stable: bool) -> bool {
         if stable {
             match self.target.of(var) {
@@ -113,21 +122,23 @@ impl SavedPhases {
         }
     }
 
-    /// Saves the value of a literal that is about to be unassigned.
+    /// Saves the value of a literal that a backtrack is about to unassign (phase saving).
     pub(crate) fn keep(&mut self, literal: Lit) {
         if let Some(place) = self.last.get_mut(literal.var().number() as usize) {
             *place = !literal.is_negative();
         }
     }
 
-    /// Updates target and best values from a trail's entries below its last level.
+    /// Updates the target and best values if the trail without its conflict level is the longest so
+    /// far.
     pub(crate) fn note(&mut self, trail: &Trail) {
-        let len = settled(trail);
+        let len = entries_below_level(trail);
         self.target.note(trail, len);
         self.best.note(trail, len);
     }
 
-    /// Takes over the last values of a search over fewer variables, and the values of its trail.
+    /// Copies the saved values of another search when a session moves to more variables: the last
+    /// values, and then those of its trail, which that search has not undone.
     pub(crate) fn take_over(&mut self, other: &SavedPhases, trail: &Trail) {
         for (number, value) in other.last.iter().enumerate() {
             if let Some(place) = self.last.get_mut(number) {
@@ -139,7 +150,7 @@ impl SavedPhases {
         }
     }
 
-    /// Sets all last values, and resets the targets.
+    /// Sets all last values as the rephasing says, and resets the target values. `Best` also resets the length of the best trail.
     pub(crate) fn rephase(&mut self, kind: Rephase) {
         for (number, last) in self.last.iter_mut().enumerate() {
             match kind {

@@ -39,19 +39,27 @@ use watches::{Propagator, add_clause};
 /// A search: its state, its lemmas, and its heuristics.
 pub(crate) struct Search<'a, P> {
     pub(crate) alloc: Global,
+    /// Clauses, propagator, trail and decision order.
     pub(crate) state: State<'a, P>,
     /// The numbers of the live lemmas, in ascending order.
     pub(crate) lemmas: Vec<u64>,
+    /// How often each lemma was used, and its LBD.
     pub(crate) uses: LemmaStats,
+    /// The lemmas and deletions, as LRAT text, since the log was last taken.
     pub(crate) log: Log,
+    /// The count of removed literals, which says when to compact the arena.
     pub(crate) garbage: Garbage,
+    /// The noted unit clauses.
     pub(crate) units: UnitClauses,
     /// The literals of level 0 that are to get a unit lemma, the next one last.
     wanted: Vec<Lit>,
+    /// The analyser of conflicts, with its tables.
     analyser: Analyser,
     /// The lemma of the last conflict, whose memory the next one reuses.
     lemma: Lemma,
+    /// The counter of LBDs.
     levels: LbdCounter,
+    /// The schedule of restarts, modes and rephasings.
     phases: Modes,
 }
 
@@ -106,7 +114,7 @@ impl<'a, P: Propagator> Search<'a, P> {
         })
     }
 
-    /// The log; frees all else.
+    /// Ends the search: hands out its log, and frees all else.
     fn into_log(self) -> Log
         ensures { result ≡ self.entry.log }
     {
@@ -127,18 +135,19 @@ impl<'a, P: Propagator> Search<'a, P> {
         log
     }
 
-    /// The packed text of the log; frees all else.
+    /// Ends the search: hands out the packed text of its log, and frees all else.
     fn into_packed(self) -> PackedText
         ensures { result ≡ self.entry.log }
     {
         self.into_log().into_packed()
     }
 
-    /// Writes the lemma that closes the cube, and returns the log.
+    /// Ends a refutation: appends the lemma that closes the cube to the log, under the number `id`,
+    /// and hands out the log's packed text.
     fn close(mut self, closing: Closing, id: u64) -> Result<PackedText, AllocError>
         requires steady { IsSteady P.is_ready P.attached self.state }
         requires closing { IsClosing (live_of self.state.arena) self.state.trail.entries closing }
-        requires limit { self.state.trail.vars ≤ 2000000 }
+        requires limit { self.state.trail.vars ≤ 199999999 }
         requires id { IsClauseNumber id }
         requires numbers { AreBelow id (live_of self.state.arena) }
         ensures { IfOk result (λ text. (lits : Clause) × IsWritten (live_of self.entry.state.arena) self.entry.state.trail.vars id lits self.entry.log text × NegatesAssumptions self.entry.state.trail.entries closing lits) }
@@ -148,12 +157,13 @@ impl<'a, P: Propagator> Search<'a, P> {
         Ok(self.into_packed())
     }
 
-    /// Learns the lemma of a conflict: writes it, bumps variables, backjumps to the lemma's level, and adds it to the clauses.
+    /// Learns the lemma of a conflict under the number `id`: writes it to the log, bumps variables, backjumps to the lemma's level, and
+    /// adds the lemma to the clauses.
     fn learn_conflict(&mut self, conflict: u64, id: u64) -> Result<(), AllocError>
         requires steady { IsSteady P.is_ready P.attached self.old.state }
         requires conflict { IsConflict (live_of self.old.state.arena) self.old.state.trail.entries conflict }
         requires above { 0 < present self.old.state.trail.entries }
-        requires limit { self.old.state.trail.vars ≤ 2000000 }
+        requires limit { self.old.state.trail.vars ≤ 199999999 }
         requires id { IsClauseNumber id }
         requires numbers { AreBelow id (live_of self.old.state.arena) }
         requires noted { AreNoted (live_of self.old.state.arena) self.old.units.numbers.items }
@@ -176,7 +186,7 @@ impl<'a, P: Propagator> Search<'a, P> {
             &self.lemma.hints,
         )?;
         self.uses.count(&self.lemma.hints);
-        self.uses.count_levels(
+        self.uses.lower_lbds(
             &mut self.levels,
             &state.arena,
             &state.trail,
@@ -203,11 +213,12 @@ impl<'a, P: Propagator> Search<'a, P> {
         Ok(())
     }
 
-    /// Learns the unit lemma of a literal that is true at level 0: writes it, and makes it the literal's reason.
+    /// Learns the unit lemma of a literal that is true at level 0, under the number `id`: writes it to the log, adds it to the clauses, and
+    /// makes it the literal's reason.
     fn learn_unit(&mut self, literal: Lit, id: u64) -> Result<(), AllocError>
         requires steady { IsSteady P.is_ready P.attached self.old.state }
         requires above { 0 < present self.old.state.trail.entries }
-        requires limit { self.old.state.trail.vars ≤ 2000000 }
+        requires limit { self.old.state.trail.vars ≤ 199999999 }
         requires id { IsClauseNumber id }
         requires numbers { AreBelow id (live_of self.old.state.arena) }
         requires noted { AreNoted (live_of self.old.state.arena) self.old.units.numbers.items }
@@ -227,12 +238,13 @@ impl<'a, P: Propagator> Search<'a, P> {
         Ok(())
     }
 
-    /// Learns the next unit lemma of a literal of level 0, or the conflict's lemma if there is none. Returns whether it was the conflict's.
+    /// Learns the unit lemma of the next wanted literal that can have one, or the lemma of the conflict if there is none. Returns true if
+    /// it was the conflict's.
     pub(crate) fn learn(&mut self, conflict: u64, id: u64) -> Result<bool, AllocError>
         requires steady { IsSteady P.is_ready P.attached self.old.state }
         requires conflict { IsConflict (live_of self.old.state.arena) self.old.state.trail.entries conflict }
         requires above { 0 < present self.old.state.trail.entries }
-        requires limit { self.old.state.trail.vars ≤ 2000000 }
+        requires limit { self.old.state.trail.vars ≤ 199999999 }
         requires id { IsClauseNumber id }
         requires numbers { AreBelow id (live_of self.old.state.arena) }
         requires noted { AreNoted (live_of self.old.state.arena) self.old.units.numbers.items }
@@ -263,7 +275,7 @@ impl<'a, P: Propagator> Search<'a, P> {
         }
     }
 
-    /// Ages the use counts, restarts, and reduces the lemmas, each if it is due.
+    /// Halves the use counts, restarts or rephases, and reduces the lemmas, each if it is due. The line of a reduction begins with `top`.
     pub(crate) fn restart_and_reduce(&mut self, top: u64) -> Result<(), AllocError>
         requires steady { IsSteady P.is_ready P.attached self.old.state }
         requires rising { AreRising self.old.lemmas.items }
@@ -288,7 +300,8 @@ impl<'a, P: Propagator> Search<'a, P> {
         Ok(())
     }
 
-    /// Backtracks to level 0, and adds a clause that is no lemma.
+    /// Backtracks to level 0, and adds a clause under the number `id`, but not to `lemmas`: one
+    /// that a session is given, or any that it takes along to more variables.
     pub(crate) fn add_given(&mut self, id: u64, lits: &[Lit]) -> Result<(), AllocError>
         requires steady { IsSteady P.is_ready P.attached self.old.state }
         requires distinct { IsDistinct same lits.now }
@@ -305,12 +318,14 @@ impl<'a, P: Propagator> Search<'a, P> {
     {
         self.state.add_given(id, lits)?;
         self.units.note(lits, id);
-        self.garbage.give(lits);
+        self.garbage.give(lits); // more given literals: compaction waits for more garbage
         self.uses.learn(0)?; // the statistics are by number, so each clause has a place
         Ok(())
     }
 
-    /// Takes over the lemmas' numbers and statistics, the log, and the saved values of another search, whose clauses this one has.
+    /// Moves the lemmas' numbers and statistics, the log, and the saved values of another search
+    /// into this one, when a session moves to more variables. This search has the other's clauses
+    /// already.
     pub(crate) fn take_over_lemmas(&mut self, other: Search<'_, P>)
         ensures { self.new ≡ record self.old { lemmas = other.entry.lemmas; uses = other.entry.uses; log = other.entry.log } }
     {
@@ -335,7 +350,7 @@ impl<'a, P: Propagator> Search<'a, P> {
         self.log = log;
     }
 
-    /// Takes the text of the log, and empties the log.
+    /// Hands out the packed text of the log, and empties the log.
     pub(crate) fn take_log(&mut self) -> PackedText
         ensures text { result ≡ self.old.log }
         ensures rest { self.new ≡ record self.old { log = [] } }
@@ -344,7 +359,8 @@ impl<'a, P: Propagator> Search<'a, P> {
         log.into_packed()
     }
 
-    /// Learns one lemma, after `learnt` others. If it is the conflict's, restarts and reduces if due.
+    /// Learns one lemma under the next clause number; `learnt` is the number of lemmas before. If it is the lemma of the conflict, restarts
+    /// and reduces if due.
     fn handle_conflict(&mut self, base: &Base, conflict: u64, learnt: u64) -> Result<(), AllocError>
         requires searching { IsSearching P.is_ready P.attached base.now learnt self.old }
         requires conflict { IsConflict (live_of self.old.state.arena) self.old.state.trail.entries conflict }
@@ -362,7 +378,7 @@ impl<'a, P: Propagator> Search<'a, P> {
         Ok(())
     }
 
-    /// Searches for an assignment under the cube, with at most `limit` lemmas.
+    /// Searches for an assignment that satisfies the base and makes the cube true, with at most `limit` lemmas, and at most 2^47.
     pub(crate) fn run(
         mut self,
         base: &Base,

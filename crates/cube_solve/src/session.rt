@@ -15,11 +15,13 @@ use packed_text::PackedText;
 use std::alloc::{AllocError, Global};
 use watches::Propagator;
 
-/// An incremental solver: the clauses given so far, over a fixed number of variables, and the lemmas that were learnt from them.
+/// An incremental solver over a fixed number of variables: it keeps the clauses that were given, and lemmas that it learnt from them.
 pub struct Session<'a, P> {
+    /// The search, with the clauses, lemmas and log.
     pub(crate) search: Search<'a, P>,
     /// The greatest number of a clause so far, given or learnt.
     pub(crate) top: u64,
+    /// The marks by which repeated literals of a clause or query are found.
     pub(crate) marks: Marks,
 }
 
@@ -61,7 +63,7 @@ impl<'a, P: Propagator> Session<'a, P> {
         })
     }
 
-    /// The search, and the greatest number of a clause so far.
+    /// Hands out the search, and the greatest number of a clause so far.
     pub(crate) fn into_parts(self) -> (Search<'a, P>, u64)
         ensures { result ≡ (self.entry.search, self.entry.top) }
     {
@@ -73,7 +75,7 @@ impl<'a, P: Propagator> Session<'a, P> {
         (search, top)
     }
 
-    /// The number of the next clause. There is an error after number 2^47.
+    /// The number of the next clause. After number 2^47 it is an error.
     pub(crate) fn next_number(&self) -> Result<u64, AllocError>
         ensures next { IfOk result (λ id. id ≡ self.now.top + 1) }
         ensures number { IfOk result IsClauseNumber }
@@ -114,7 +116,7 @@ impl<'a, P: Propagator> Session<'a, P> {
         self.top
     }
 
-    /// The lemmas that were learnt and deleted since the last call, or the beginning, as lines of LRAT text.
+    /// Hands out the lemmas and deletions since the last call, or since the beginning, as lines of LRAT text.
     pub fn take_log(&mut self) -> PackedText
         ensures text { result ≡ log_of self.old }
         ensures empty { log_of self.new ≡ [] }

@@ -11,7 +11,8 @@ use dimacs::{Base, Lit};
 use std::alloc::{AllocError, Global};
 use watches::{Propagator, Watched};
 
-/// As [`solve`], with the caller's propagator, which has no clause yet.
+/// Searches for an assignment that satisfies the base and makes the cube true, by the caller's
+/// propagator, to which no clause is attached yet. [`solve`] has the limits and the outcomes.
 pub fn solve_by<P: Propagator>(
     alloc: Global,
     propagator: &mut P,
@@ -28,7 +29,7 @@ pub fn solve_by<P: Propagator>(
     search.run(base, cube, limit)
 }
 
-/// Searches for an assignment that satisfies the base and the cube.
+/// Searches for an assignment that satisfies the base and makes the cube true. No variable stands in two literals of the cube.
 ///
 /// A model has one truth value for each variable. A refutation is a fragment that closes the cube: a log of at most `limit` lemmas, and
 /// then the lemma that closes. At the conflict that would need one lemma more, the search ends with its log. A limit above 2^47 counts

@@ -24,12 +24,13 @@ use watches::{Propagator, Trail, add_clause};
 /// The state of a search. Each clause of the arena is attached to the propagator; each unassigned variable is in the decision order.
 pub(crate) struct State<'a, P> {
     pub(crate) propagator: &'a mut P,
+    /// The clauses, given and learnt.
     pub(crate) arena: Arena,
     pub(crate) trail: Trail,
     pub(crate) order: Order,
     /// The levels from 1 to this one are those of assumptions.
     pub(crate) assumed: u32,
-    /// The number of literals that were propagated.
+    /// The number of entries that propagation has pushed on the trail.
     pub(crate) ticks: u64,
 }
 
@@ -47,7 +48,7 @@ impl<P> Drop for State<'_, P> {
 }
 
 impl<'a, P: Propagator> State<'a, P> {
-    /// The clauses of the base, numbered from 1, and an empty trail.
+    /// A state with the clauses of the base, numbered from 1, and an empty trail.
     pub(crate) fn new(
         alloc: Global,
         propagator: &'a mut P,
@@ -74,7 +75,7 @@ impl<'a, P: Propagator> State<'a, P> {
         })
     }
 
-    /// Backtracks to a level, and puts the unassigned variables back into the decision order.
+    /// Backtracks to a level. Puts the variables that this unassigns back into the decision order, and saves their values.
     pub(crate) fn backtrack(&mut self, level: u32)
         requires { IsSteady P.is_ready P.attached self.old }
         ensures steady { IsSteady P.is_ready P.attached self.new }
@@ -89,7 +90,7 @@ impl<'a, P: Propagator> State<'a, P> {
         self.propagator.undo(&mut self.trail, level);
     }
 
-    /// Backtracks to level 0, and drops all assumptions.
+    /// Backtracks to level 0, and forgets all assumptions, before the next query of a session.
     pub(crate) fn begin(&mut self)
         requires { IsSteady P.is_ready P.attached self.old }
         ensures steady { IsSteady P.is_ready P.attached self.new }
@@ -101,7 +102,7 @@ impl<'a, P: Propagator> State<'a, P> {
         self.assumed = 0;
     }
 
-    /// Backtracks to level 0, and adds a clause.
+    /// Backtracks to level 0, and adds a clause under the number `id`.
     pub(crate) fn add_given(&mut self, id: u64, lits: &[Lit]) -> Result<(), AllocError>
         requires steady { IsSteady P.is_ready P.attached self.old }
         requires distinct { IsDistinct same lits.now }
@@ -116,7 +117,7 @@ impl<'a, P: Propagator> State<'a, P> {
         Ok(())
     }
 
-    /// Adds the unit lemma of a literal that is true at level 0, and makes it the literal's reason.
+    /// Adds the unit lemma of a literal that is true at level 0, under the number `id`, and makes it the literal's reason.
     pub(crate) fn add_root_unit(
         &mut self,
         literal: Lit,
@@ -139,7 +140,8 @@ impl<'a, P: Propagator> State<'a, P> {
         Ok(())
     }
 
-    /// Restarts, switches the mode or rephases. A restart keeps the levels of assumptions.
+    /// Restarts, switches the mode or rephases, as the schedule says. A restart keeps the levels of assumptions; else all levels are
+    /// undone.
     pub(crate) fn restart_or_rephase(&mut self, after_conflict: AfterConflict)
         requires { IsSteady P.is_ready P.attached self.old }
         ensures steady { IsSteady P.is_ready P.attached self.new }
@@ -152,7 +154,7 @@ impl<'a, P: Propagator> State<'a, P> {
             AfterConflict::Restart => self.backtrack(self.assumed),
             AfterConflict::SwitchMode(by_scores) => {
                 self.backtrack(0);
-                self.order.change(by_scores);
+                self.order.switch_mode(by_scores);
             }
             AfterConflict::Rephase(kind) => {
                 self.backtrack(0);

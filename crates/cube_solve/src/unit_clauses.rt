@@ -1,4 +1,4 @@
-//! The unit clauses, by variable.
+//! The table of unit clauses, by variable.
 
 ghost use Rattle.std.specs.Prelude.{◌≡◌, ℕ, ◌<◌, true, [], ◌∷◌, IfOk, IfSome};
 ghost use Rattle.std.specs.Bool.{OnTrue};
@@ -11,10 +11,10 @@ use clause_arena::Arena;
 use dimacs::{Base, Lit};
 use std::alloc::{AllocError, Global};
 
-/// For each variable, the number of the last unit clause of it that was added; 0 if there was none. A noted clause need not be live any
-/// more.
+/// For each variable, the number of the unit clause of it that was added last; 0 if there was none. A noted clause may be deleted by now.
 #[derive(Drop)]
 pub(crate) struct UnitClauses {
+    /// By variable.
     pub(crate) numbers: Vec<u64>,
 }
 
@@ -28,7 +28,7 @@ fn is_alone(clause: &[Lit], literal: Lit) -> bool
     }
 }
 
-/// Whether a clause has no other literal than this one.
+/// Whether each literal of a clause is this one.
 fn are_all(clause: &[Lit], literal: Lit) -> bool
     ensures { (l : Literal) → IsUnitOf clause.now l → l ≡ literal → result ≡ true }
 {
@@ -41,7 +41,7 @@ fn are_all(clause: &[Lit], literal: Lit) -> bool
 }
 
 impl UnitClauses {
-    /// The unit clauses of a base.
+    /// A table of the unit clauses of a base, whose clauses are numbered from 1.
     pub(crate) fn new(alloc: Global, base: &Base) -> Result<UnitClauses, AllocError>
         ensures { IfOk result (λ units. AreNoted (live_in (map_of base.now)) units.numbers.items) }
     {
@@ -54,7 +54,8 @@ impl UnitClauses {
         Ok(units)
     }
 
-    /// Notes the number of a clause if it is a unit clause, perhaps with its literal repeated.
+    /// Notes a unit clause in the table: its number under its variable. A clause that repeats its
+    /// one literal counts too; other clauses are ignored.
     pub(crate) fn note(&mut self, clause: &[Lit], number: u64)
         requires { 0 < number }
         ensures kept { (v : ℕ) → IsNoted self.old.numbers.items v → IsNoted self.new.numbers.items v }
@@ -71,7 +72,7 @@ impl UnitClauses {
         }
     }
 
-    /// Whether a unit clause of the literal's variable may be live.
+    /// Whether a unit clause of the literal's variable was noted, live or not. A variable outside the table counts as noted.
     pub(crate) fn is_noted(&self, literal: Lit) -> bool
         ensures { IsNoted self.now.numbers.items (var_of literal) → result ≡ true }
     {
@@ -79,7 +80,7 @@ impl UnitClauses {
         row >= self.numbers.len() || self.numbers[row] > 0
     }
 
-    /// The number of a live unit clause of this literal.
+    /// The number of a live unit clause of this literal; None if the noted clause of its variable is deleted or another one.
     pub(crate) fn find(&self, arena: &Arena, literal: Lit) -> Option<u64>
         ensures { IfSome result (λ n. live_of arena.now n (literal ∷ [])) }
     {

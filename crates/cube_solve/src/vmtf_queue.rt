@@ -1,6 +1,6 @@
 //! The VMTF queue: variables by the time of their last bump, the latest first (variable move to front: Ryan 2004; Biere and Fröhlich 2015).
 //!
-//! No proof rests on the queue: a variable that it finds is tested to be unassigned, and if it finds none the heap is asked.
+//! No proof rests on the queue: a variable that it finds is tested to be unassigned, and if it finds none, the heap is asked.
 
 ghost use Rattle.std.specs.Prelude.{IfSome};
 ghost use Rattle.dimacs.specs.logic.Literal.{Neg};
@@ -10,11 +10,14 @@ use dimacs::{Lit, Var};
 use std::alloc::{AllocError, Global};
 use watches::{Trail, Truth};
 
-/// A variable's neighbours in the queue, by number, 0 if there is none, and the time of its last bump.
+/// The neighbours of a variable in the queue, by number, 0 if there is none; and the time of its last bump.
 #[derive(Clone, Copy)]
 struct Link {
+    /// The number of the variable that was bumped next before this one.
     earlier: u32,
+    /// The number of the variable that was bumped next after this one.
     later: u32,
+    /// The time of the last bump.
     time: u64,
 }
 
@@ -22,11 +25,13 @@ struct Link {
 pub(crate) struct VmtfQueue {
     /// By variable.
     links: Vec<Link>,
+    /// The last bumped variable; 0 if there is none.
     latest: u32,
+    /// The time of the last bump.
     clock: u64,
-    /// The place where the search for an unassigned variable begins: all later variables are assigned.
+    /// The variable from which `find` looks for an unassigned one: all later variables are assigned.
     cursor: u32,
-    /// The buffer of `bump`: variables with their times.
+    /// The buffer of `bump`: each variable, after its time.
     bumped: Vec<(u64, u32)>,
 }
 
@@ -43,7 +48,7 @@ impl Drop for VmtfQueue {
 }
 
 impl VmtfQueue {
-    /// A queue of all variables, in which variable 1 is the latest.
+    /// A queue of the variables from 1 to `vars`, in which variable 1 is the latest.
     pub(crate) fn new(alloc: Global, vars: u32) -> Result<VmtfQueue, AllocError> {
         let mut links = Vec::with_capacity(alloc, vars as usize + 1)?;
         for number in 0..vars as u64 + 1 {
@@ -67,7 +72,7 @@ impl VmtfQueue {
         })
     }
 
-    /// The time of a variable's last bump.
+    /// The time of the last bump of the variable of this number; 0 if there is no such variable.
     fn time_of(&self, number: u32) -> u64 {
         match self.links.get(number as usize) {
             Some(link) => link.time,
@@ -75,7 +80,8 @@ impl VmtfQueue {
         }
     }
 
-    /// Links two neighbours, or an end of the queue.
+    /// Links two variables as neighbours in the list, `earlier` before `later`. Number 0 stands for
+    /// an end of the queue.
     fn join(&mut self, earlier: u32, later: u32) {
         if let Some(link) = self.links.get_mut(earlier as usize) {
             link.later = later;
@@ -85,7 +91,7 @@ impl VmtfQueue {
         }
     }
 
-    /// Makes a variable the latest.
+    /// Makes the variable of this number the latest, with a new time.
     fn move_to_end(&mut self, number: u32) {
         let Some(&link) = self.links.get(number as usize) else {
             return;
@@ -102,7 +108,7 @@ impl VmtfQueue {
         }
     }
 
-    /// Bumps variables in the order of their times, which keeps their relative order.
+    /// Bumps these variables in the order of their times, so that their relative order stays.
     pub(crate) fn bump(&mut self, vars: &[Var]) -> Result<(), AllocError> {
         self.bumped.clear();
         for &var in vars {
@@ -119,7 +125,8 @@ impl VmtfQueue {
         Ok(())
     }
 
-    /// Moves the cursor to a variable that was unassigned, if it is later.
+    /// Moves the cursor to a variable that is about to be unassigned, if it was bumped later than
+    /// the cursor's: all variables after the cursor are assigned.
     pub(crate) fn free(&mut self, var: Var) {
         let number = var.number();
         if self.time_of(number) > self.time_of(self.cursor) {
@@ -127,12 +134,12 @@ impl VmtfQueue {
         }
     }
 
-    /// Moves the cursor to the latest variable.
+    /// Moves the cursor to the latest variable, at a change of mode.
     pub(crate) fn rewind(&mut self) {
         self.cursor = self.latest;
     }
 
-    /// The latest unassigned variable.
+    /// Finds the latest unassigned variable, and moves the cursor to it; None if there is none.
     pub(crate) fn find(&mut self, trail: &Trail) -> Option<Var>
         ensures { IfSome result (λ v. IsUnassigned trail.now (Neg v)) }
     {

@@ -255,7 +255,7 @@ unit_not : (S : List Literal) (l : Literal) → has S l ≡ false → ¬ (Contai
 unit_not S l e h = both_ways (has S l) e (Contains-has S l h)
 
 candidate_of : (F : Cnf) (p : Pair) → IsPairOf F.vars p → has (pure_literals F) p.first ≡ false → has (pure_literals F) p.second ≡ false → IsCandidate F p
-candidate_of F p h a b = record { of_formula = h; first_undecided = unit_not (pure_literals F) p.first a; second_open = unit_not (pure_literals F) p.second b }
+candidate_of F p h a b = record { of_formula = h; first_undecided = unit_not (pure_literals F) p.first a; second_undecided = unit_not (pure_literals F) p.second b }
 
 key_below : (F : Cnf) → IsFormula F → (test : Literal → Bool) (k : ℕ) → IsKey F.vars test k → k < 72057594037927936
 key_below F limits test k (p, is, a, b, e) =
@@ -285,7 +285,7 @@ ranked_from F limits keys sorted h moved up =
     record {
       there = λ p candidate some.
           let t : times (key_of p) sorted ≡ together F.clauses p =
-          times_permuted (key_of p) keys sorted moved ∙ h.counted p candidate.of_formula (not_unit units p.first candidate.first_undecided) (not_unit units p.second candidate.second_open) in
+          times_permuted (key_of p) keys sorted moved ∙ h.counted p candidate.of_formula (not_unit units p.first candidate.first_undecided) (not_unit units p.second candidate.second_undecided) in
           subst (λ (n : ℕ). Contains (ranks_from 0 0 sorted) (rank_of n (key_of p))) t (ranks_there sorted (sorted_from sorted up) (key_of p) (omega arith));
       made = All-weaker (λ r. (k : ℕ) × (0 < times k sorted) × (r ≡ rank_of (times k sorted) k))
           (λ r. (p : Pair) × IsCandidate F p × (0 < together F.clauses p) × (r ≡ rank_of (together F.clauses p) (key_of p)))

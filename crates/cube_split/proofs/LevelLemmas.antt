@@ -8,7 +8,7 @@ use Rattle.dimacs.specs.logic.Literal.{Literal, Clause, same, has}
 use Rattle.dimacs.proofs.LiteralLemmas.{same-flips}
 use Rattle.icnf.specs.Leaves.{Cube}
 use Rattle.cube_split.specs.Choice.{has_variable, is_apart, stands_in}
-use Rattle.cube_split.specs.inner.Open.{AreTurned, open_count}
+use Rattle.cube_split.specs.inner.OpenClauses.{AreTurned, open_count}
 use Rattle.cube_split.specs.inner.WalkInvariant.{level_of, closed_at}
 use Rattle.cube_split.proofs.CountLemmas.{one_if_true, one_if_false}
 

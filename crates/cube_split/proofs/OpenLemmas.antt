@@ -6,7 +6,7 @@ use Rattle.std.proofs.lemmas.List.Elements.{All-get_or}
 use Rattle.std.proofs.lemmas.List.Folds.{list_any_at}
 use Rattle.dimacs.specs.logic.Literal.{Literal, Clause, var_of}
 use Rattle.cube_split.specs.Choice.{has_variable}
-use Rattle.cube_split.specs.inner.Open.{AreFlagged, open_count}
+use Rattle.cube_split.specs.inner.OpenClauses.{AreFlagged, open_count}
 use Rattle.cube_split.specs.inner.Places.{nowhere, place_at}
 use Rattle.cube_split.specs.declared.places.Place.{Place}
 use Rattle.cube_split.proofs.CountLemmas.{variable_at, variable_other, one_if_true, one_if_false}

@@ -8,7 +8,7 @@ use Rattle.std.proofs.lemmas.List.{get_or_append_left, take-append-le, drop-appe
 use Rattle.dimacs.specs.logic.Cnf.{literal_count}
 use Rattle.dimacs.specs.logic.Literal.{Literal, Clause, var_of, index_of, literal_of}
 use Rattle.cube_split.specs.Choice.{has_variable}
-use Rattle.cube_split.specs.inner.Open.{AreIndexed}
+use Rattle.cube_split.specs.inner.OpenClauses.{AreIndexed}
 use Rattle.cube_split.specs.inner.Places.{nowhere, place_at, places_of, AreOf, Appends, IsLast, AreChained, ArePlaced}
 use Rattle.cube_split.specs.declared.places.Place.{Place}
 use Rattle.cube_split.proofs.CountLemmas.{variable_at, variable_other}

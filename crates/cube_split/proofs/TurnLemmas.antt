@@ -6,7 +6,7 @@ use Rattle.std.proofs.lemmas.List.{get_or-map, get_or-take, get_or-drop, length-
 use Rattle.std.proofs.lemmas.List.Folds.{list_any_at}
 use Rattle.dimacs.specs.logic.Literal.{Literal, index_of, same, has}
 use Rattle.dimacs.proofs.LiteralLemmas.{same-true, same-is}
-use Rattle.cube_split.specs.inner.Open.{AreIndexed, AreTurned}
+use Rattle.cube_split.specs.inner.OpenClauses.{AreIndexed, AreTurned}
 use Rattle.cube_split.specs.inner.Places.{nowhere, place_at, places_of, clause_of, IsLast}
 use Rattle.cube_split.specs.declared.places.Place.{Place}
 

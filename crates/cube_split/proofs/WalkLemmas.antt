@@ -13,7 +13,7 @@ use Rattle.icnf.specs.Leaves.{Cube, IsFree}
 use Rattle.cube_split.specs.Choice.{Choice, stands_in}
 use Rattle.cube_split.specs.Definitions.{Opening}
 use Rattle.cube_split.specs.inner.Marks.{AreMarked, IsUnmarked, IsGreatest}
-use Rattle.cube_split.specs.inner.Open.{AreTurned, open_count}
+use Rattle.cube_split.specs.inner.OpenClauses.{AreTurned, open_count}
 use Rattle.cube_split.specs.inner.Places.{clause_of, ArePlaced, AreChained}
 use Rattle.cube_split.specs.inner.Tallies.{AreListed}
 use Rattle.cube_split.specs.inner.WalkInvariant.{IsWalkAt, IsClosedBy, closed_at, from_start, widened}

@@ -13,11 +13,11 @@ abbrev pub held_by : List Literal → ℕ → List Pair → List Literal
 held_by S d [] = []
 held_by S d (p ∷ pairs) = (if has S (Pos d) then p.first ∷ p.second ∷ [] else []) ++ held_by S (d + 1) pairs
 
--- the literals that hold in a cube: those of the opening's units and of the cube, and of the pairs whose defined variable is one of these
+-- the literals that hold in a cube: those of the opening's units and of the cube, and of each pair whose defined variable is one of these
 abbrev pub holding : Cnf → Opening → Cube → List Literal
 holding F opening cube = (opening.units ++ cube) ++ held_by (opening.units ++ cube) (F.vars + 1) opening.pairs
 
--- defined variable i, from 0, is undecided: S has no literal of it, nor of the variables of its pair
+-- the defined variable of pair i, from 0, is undecided: S has no literal of it, nor of the variables of its pair
 pub record IsUndecided (F : Cnf) (pairs : List Pair) (S : List Literal) (i : ℕ) : Type 0 where
   pub pair : Pair
   pub there : slice_get pairs i ≡ Some pair
@@ -25,17 +25,17 @@ pub record IsUndecided (F : Cnf) (pairs : List Pair) (S : List Literal) (i : ℕ
   pub first : IsFree S (var_of pair.first)
   pub second : IsFree S (var_of pair.second)
 
--- The variable that is chosen if the literals of S hold; None if none is chosen.
+-- the variable that the split rule chooses if the literals of S hold; None if it chooses none
 pub data IsChosen (F : Cnf) (pairs : List Pair) (S : List Literal) (v : Option ℕ) : Type 0 where
   -- the lowest defined variable that is undecided
   defined : (i : ℕ) → IsUndecided F pairs S i → ((j : ℕ) → j < i → ¬ (IsUndecided F pairs S j)) → v ≡ Some (F.vars + 1 + i) → IsChosen F pairs S v
-  -- if there is none, as without definitions
+  -- if no defined variable is undecided, as without definitions: the choice of the rule without definitions
   plain : ((j : ℕ) → ¬ (IsUndecided F pairs S j)) → Choice F S v → IsChosen F pairs S v
 
 -- the variable on which a cube is split; None if it is not split
 abbrev pub Chooses : Cnf → Opening → Cube → Option ℕ → Type 0
 Chooses F opening cube v = IsChosen F opening.pairs (holding F opening cube) v
 
--- the leaves of the tree of this depth with these definitions
+-- a tree's leaves: it is the tree of this depth of the formula with this opening, by the split rule
 abbrev pub IsTreeWith : Cnf → Opening → ℕ → List Cube → Type 0
 IsTreeWith F opening depth cubes = IsSplitBy (Chooses F opening) depth [] cubes

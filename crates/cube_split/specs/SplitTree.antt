@@ -6,11 +6,11 @@ use Rattle.dimacs.specs.logic.Literal.{Literal, Pos, Neg}
 use Rattle.icnf.specs.Leaves.{Cube}
 use Rattle.cube_split.specs.Choice.{Choice}
 
--- the formula, followed by the unit clause of each of these literals
+-- the formula with the unit clause of each of these literals, after its own clauses
 abbrev pub with_units : Cnf → List Literal → Cnf
 with_units f units = record f { clauses = f.clauses ++ map (λ l. l ∷ []) units }
 
--- the leaves below a path that a rule splits, at most so many levels deep: the path alone if no level is left or the rule chooses no
+-- the leaves below a path that a rule splits, at most this many levels deep: the path alone if no level is left or the rule chooses no
 -- variable for it, else the leaves below the positive literal of the chosen variable, and then those below the negative one
 pub data IsSplitBy (Rule : Cube → Option ℕ → Type 0) : ℕ → Cube → List Cube → Type 0 where
   full : {path : Cube} → IsSplitBy Rule zero path (path ∷ [])
@@ -19,6 +19,6 @@ pub data IsSplitBy (Rule : Cube → Option ℕ → Type 0) : ℕ → Cube → Li
       → IsSplitBy Rule levels (path ++ Pos v ∷ []) left → IsSplitBy Rule levels (path ++ Neg v ∷ []) right
       → IsSplitBy Rule (suc levels) path (left ++ right)
 
--- the leaves of the tree of this depth without definitions: those below the empty path, by the split rule with the pure literals as units
+-- a tree's leaves: it is the tree of this depth without definitions, by the split rule with the pure literals as units
 abbrev pub IsTreeOf : Cnf → ℕ → List Cube → Type 0
 IsTreeOf f depth cubes = IsSplitBy (λ path v. Choice f (pure_literals f ++ path) v) depth [] cubes

@@ -2,7 +2,7 @@
 pub mod AppendedCubes
 pub mod DescentInvariant
 pub mod Marks
-pub mod Open
+pub mod OpenClauses
 pub mod Places
 pub mod Ranks
 pub mod Tallies

@@ -1,4 +1,4 @@
-//! The split rule.
+//! The split rule: the variable on which a cube is split.
 
 ghost use Rattle.std.specs.Prelude.{◌≡◌, ◌+◌, ◌*◌, ◌<◌, ◌≤◌, ◌++◌, false, List, [], length, All, IfOk};
 ghost use Rattle.dimacs.specs.logic.Literal.{Literal, has};
@@ -23,7 +23,9 @@ use std::marker::Model;
 /// Between two choices no literal is marked, and every count is 0.
 #[derive(Drop)]
 pub struct Chooser {
+    /// By literal: whether it is one of S, during a choice.
     marks: Vec<bool>,
+    /// In how many open clauses each variable occurs, during a choice.
     tally: Tally,
 }
 
@@ -51,11 +53,11 @@ impl Chooser {
         })
     }
 
-    /// The variable on which a cube is split. Let S be the literals of preamble and cube, and those of each pair whose defined
+    /// Chooses the variable on which a cube is split. Let S be the literals of preamble and cube, and those of each pair whose defined
     /// variable is in S.
     ///
-    /// The lowest defined variable comes first, if neither it nor a variable of its pair has a literal in S. Else it is, of the
-    /// variables without a literal in S, the one that occurs in the most clauses without a literal of S (open clauses), and of
+    /// The lowest defined variable comes first of which neither it nor a variable of its pair has a literal in S. If there is none, it is,
+    /// of the variables without a literal in S, the one that occurs in the most clauses without a literal of S (open clauses), and of
     /// several the lowest. None if no such variable occurs in an open clause.
     pub fn choose(&mut self, formula: &Formula, preamble: &Preamble, cube: &[Lit]) -> Option<Var>
         requires room { formula.now.vars + length preamble.now.pairs ≤ self.old }
@@ -76,7 +78,7 @@ impl Chooser {
     }
 }
 
-/// The choice, by tables that are clear before and after.
+/// Chooses the variable on which a cube is split, by tables that are clear before and after; None if there is none.
 fn choose_in(
     marks: &mut [bool],
     tally: &mut Tally,
@@ -107,7 +109,8 @@ fn choose_in(
     choice
 }
 
-/// The choice, if the literals of S are marked.
+/// Chooses the variable on which a cube is split if the literals of S are marked: the first undecided defined variable, or by counts. None
+/// if there is none.
 fn choose_marked(
     marks: &[bool],
     tally: &mut Tally,
@@ -129,7 +132,7 @@ fn choose_marked(
     choose_counted(marks, tally, formula)
 }
 
-/// The variable that occurs in the most clauses without a marked literal.
+/// Finds the unmarked variable that occurs in the most clauses without a marked literal, and of several the lowest; None if there is none.
 fn choose_counted(marks: &[bool], tally: &mut Tally, formula: &Formula) -> Option<Var>
     requires clear { IsClear (length tally.old.counts.items) tally.old }
     requires size { length marks.now ≡ 2 * length tally.old.counts.items }
@@ -137,7 +140,7 @@ fn choose_counted(marks: &[bool], tally: &mut Tally, formula: &Formula) -> Optio
     ensures choice { (S : List Literal) → AreMarked marks.now (has S) → Choice formula.now S result }
     ensures clear { IsClear (length tally.old.counts.items) tally.new }
 {
-    let _ = formula.vars(); // a model's invariant: every literal's variable is at most vars
+    let _ = formula.vars(); // for proofs: every literal's variable is at most vars
     tally.count_clauses(marks, formula);
     let choice = greatest(marks, &tally.counts, tally.variables());
     tally.clear();

@@ -1,4 +1,5 @@
-//! Which pairs of literals occur together in a formula's short clauses: one key for each occurrence.
+//! Which pairs of literals occur together in a formula's short clauses: one key for each pair and clause. A clause is short if it has two
+//! or three distinct literals.
 
 ghost use Rattle.std.specs.Prelude.{◌≡◌, ◌+◌, ◌*◌, ◌<◌, ◌≤◌, ◌++◌, Bool, true, length, All, IfOk, OnOk};
 ghost use Rattle.std.specs.Option.{option_to_list};
@@ -11,7 +12,7 @@ use crate::pair::Pair;
 use dimacs::{Formula, Lit, has_literal};
 use std::alloc::{AllocError, Global};
 
-/// Collects the distinct literals of a clause, and tells whether there are two or three.
+/// Overwrites `found` with the distinct literals of a clause. Returns whether there are two or three; it stops at the fourth.
 fn collect_distinct(found: &mut Vec<Lit>, clause: &[Lit]) -> Result<bool, AllocError>
     ensures short { IfOk result (λ short. short ≡ is_short clause.now) }
     ensures gathered { IfOk result (λ short. short ≡ true → AreDistinctOf clause.now found.new.items) }
@@ -29,7 +30,7 @@ fn collect_distinct(found: &mut Vec<Lit>, clause: &[Lit]) -> Result<bool, AllocE
     Ok(found.len() >= 2)
 }
 
-/// The key of two literals; None if one of them is marked, or both have one variable.
+/// The key of the pair of two literals; None if one of them is marked, or if both have one variable.
 fn key_of_two(marks: &[bool], x: Lit, y: Lit) -> Option<u64>
     requires size { length marks.now ≤ 268435456 }
     requires first { index_of x < length marks.now }
@@ -58,7 +59,7 @@ fn key_of_two(marks: &[bool], x: Lit, y: Lit) -> Option<u64>
     }
 }
 
-/// Appends the key of each pair of a literal and one of the others.
+/// Appends the key of each pair of `literal` and one of the others, if the pair has a key.
 fn push_with(
     keys: &mut Vec<u64>,
     marks: &[bool],
@@ -78,7 +79,7 @@ fn push_with(
     Ok(())
 }
 
-/// Appends the key of each pair of two of these literals.
+/// Appends the key of each pair of two of these literals, if the pair has a key.
 fn push_among(keys: &mut Vec<u64>, marks: &[bool], literals: &[Lit]) -> Result<(), AllocError>
     requires size { length marks.now ≤ 268435456 }
     requires inside { All (λ l. index_of l < length marks.now) literals.now }
@@ -90,8 +91,8 @@ fn push_among(keys: &mut Vec<u64>, marks: &[bool], literals: &[Lit]) -> Result<(
     Ok(())
 }
 
-/// The keys of the pairs that occur together in short clauses, clause after clause, so that a pair's key is repeated for each clause.
-/// No pair has a marked literal.
+/// The keys of the pairs without a marked literal that occur together in short clauses, clause after clause, so that a pair's key is
+/// repeated for each clause.
 pub(crate) fn pair_keys(
     alloc: Global,
     marks: &[bool],
@@ -100,7 +101,7 @@ pub(crate) fn pair_keys(
     requires { length marks.now ≡ 2 * (formula.now.vars + 1) }
     ensures { IfOk result (λ keys. (test : Literal → Bool) → AreMarked marks.now test → AreKeys formula.now.vars test formula.now.clauses keys.items) }
 {
-    let _ = formula.vars(); // a model's invariant: the formula is within its limits
+    let _ = formula.vars(); // for proofs: the formula is within its limits
     let mut keys = Vec::new(alloc);
     let mut found = Vec::new(alloc);
     for i in 0..formula.len() {

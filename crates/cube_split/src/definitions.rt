@@ -1,4 +1,4 @@
-//! Defined variables in a table of marks: which literals hold with them, and which of them are undecided.
+//! Defined variables in a table of marks: the literals that hold with them, and the undecided ones.
 
 ghost use Rattle.std.specs.Prelude.{◌≡◌, ◌≢◌, ℕ, ◌+◌, ◌*◌, ◌<◌, ◌≤◌, ◌++◌, ◌&&◌, not, Bool, List, Some, true, false, length, slice_get, All, IfSome, IfNone};
 ghost use Rattle.dimacs.specs.logic.Literal.{Literal, Pos, has, var_of};
@@ -11,9 +11,10 @@ use crate::marks::{mark, unmark};
 use crate::pair::Pair;
 use dimacs::{Lit, Var};
 
-/// Marks both literals of each pair whose defined variable is marked. The pairs define the variables from `vars` + 1 on.
+/// Marks both literals of each pair whose defined variable is marked, since the definition implies
+/// them. The pairs define the variables from `vars` + 1 on.
 pub(crate) fn mark_held(marks: &mut [bool], vars: u32, pairs: &[Pair])
-    requires few { (vars ≤ 1000000) × (length pairs.now ≤ 64) }
+    requires few { (vars ≤ 99999999) × (length pairs.now ≤ 64) }
     requires room { 2 * (vars + length pairs.now + 1) ≤ length marks.old }
     requires pairs { All (IsPairOf vars) pairs.now }
     ensures { (S : List Literal) → AreMarked marks.old (has S) → AreMarked marks.new (has (S ++ held_by S (vars + 1) pairs.now)) }
@@ -27,8 +28,8 @@ pub(crate) fn mark_held(marks: &mut [bool], vars: u32, pairs: &[Pair])
     }
 }
 
-/// The pair that a literal defines: both of its literals hold if this literal does. None unless it is a positive literal of a defined
-/// variable.
+/// The pair that a literal defines: both literals of the pair hold if this literal does. None if the literal is negative or its variable is
+/// not a defined one.
 pub(crate) fn held_pair(vars: u32, pairs: &[Pair], literal: Lit) -> Option<Pair>
     ensures some { IfSome result (λ p. (i : ℕ) × (literal ≡ Pos (vars + 1 + i)) × (slice_get pairs.now i ≡ Some p)) }
     ensures none { IfNone result ((i : ℕ) → i < length pairs.now → literal ≢ Pos (vars + 1 + i)) }
@@ -54,7 +55,7 @@ pub(crate) fn unmark_pairs(marks: &mut [bool], pairs: &[Pair])
     }
 }
 
-/// Whether no literal of a defined variable is marked, and none of its pair's two variables.
+/// Whether no literal of a defined variable is marked, and none of the two variables of its pair.
 fn is_undecided(marks: &[bool], variable: Var, pair: Pair) -> bool
     requires variable { 2 * variable + 1 < length marks.now }
     requires pair { IsPairOf variable pair }
@@ -66,9 +67,9 @@ fn is_undecided(marks: &[bool], variable: Var, pair: Pair) -> bool
         && is_unmarked(marks, pair.second.var())
 }
 
-/// The lowest defined variable that is undecided.
+/// The lowest defined variable that is undecided; None if there is none. The pairs define the variables from `vars` + 1 on.
 pub(crate) fn first_undecided(marks: &[bool], vars: u32, pairs: &[Pair]) -> Option<Var>
-    requires few { (vars ≤ 1000000) × (length pairs.now ≤ 64) }
+    requires few { (vars ≤ 99999999) × (length pairs.now ≤ 64) }
     requires room { 2 * (vars + length pairs.now + 1) ≤ length marks.now }
     requires pairs { All (IsPairOf vars) pairs.now }
     ensures some { IfSome result (λ v. (i : ℕ) × (v ≡ vars + 1 + i) × IsUndecidedBy marks.now vars pairs.now i × ((j : ℕ) → j < i → ¬ (IsUndecidedBy marks.now vars pairs.now j))) }

@@ -1,4 +1,4 @@
-//! A depth-first walk over the tree that the split rule makes, which also follows the pairs of defined variables.
+//! A depth-first descent through the tree that the split rule makes, which also follows the pairs of defined variables.
 
 ghost use Rattle.std.specs.Prelude.{ℕ, ◌+◌, ◌≤◌, ◌++◌, ◌∷◌, List, [], Some, length, All, IfOk};
 ghost use Rattle.dimacs.specs.logic.Cnf.{Cnf};
@@ -15,18 +15,19 @@ use crate::walk::Walk;
 use dimacs::{Formula, Lit, Var};
 use std::alloc::{AllocError, Global};
 
-/// A walk along a path from the root. With a literal that defines a pair it also enters both literals of the pair.
+/// A descent along a path from the root. With a literal that defines a pair, the walk also enters both literals of the pair.
 #[derive(Drop)]
 pub(crate) struct Descent {
+    /// The walk along the literals that hold.
     pub walk: Walk,
     /// The number of the formula's variables.
     pub vars: u32,
-    /// The pairs that define the variables after these.
+    /// The pairs that define the variables from `vars` + 1 on.
     pub pairs: Vec<Pair>,
 }
 
 impl Descent {
-    /// A walk at the root.
+    /// A descent at the root of the tree of a formula and its preamble.
     pub(crate) fn begin(
         alloc: Global,
         formula: &Formula,
@@ -45,7 +46,7 @@ impl Descent {
         })
     }
 
-    /// The variable on which the cube of the path is split.
+    /// The variable on which the cube of the path is split; None if it is not split.
     pub(crate) fn choice(&self) -> Option<Var>
         requires { (F : Cnf) × (opening : Opening) × (path : Cube) × (trail : Cube) × IsDescentAt F opening path trail self.now }
         ensures { (F : Cnf) (opening : Opening) (path trail : Cube) → IsDescentAt F opening path trail self.now → Chooses F opening path result }
@@ -56,7 +57,8 @@ impl Descent {
         self.walk.choice()
     }
 
-    /// Goes down to the branch of a literal.
+    /// Goes down to the branch of this literal: puts it on the walk's trail, and with a defined
+    /// variable the two literals that it implies.
     pub(crate) fn enter(&mut self, literal: Lit)
         requires { (F : Cnf) × (opening : Opening) × (path : Cube) × (trail : Cube) × IsDescentAt F opening path trail self.old × (var_of literal ≤ F.vars + length opening.pairs) × (length path ≤ 64) }
         ensures { (F : Cnf) (opening : Opening) (path trail : Cube) → IsDescentAt F opening path trail self.old →
@@ -69,7 +71,8 @@ impl Descent {
         }
     }
 
-    /// Goes back up from the branch of this literal, the last of the path. It is a literal of the variable that was chosen there.
+    /// Goes back up from the branch of this literal, the last of the path: takes it off the walk's
+    /// trail, and the literals that went on with it.
     pub(crate) fn leave(&mut self, literal: Lit)
         requires { (F : Cnf) × (opening : Opening) × (path : Cube) × (trail : Cube) × IsTrailOf F opening path trail × Chooses F opening path (Some (var_of literal))
             × IsDescentAt F opening (path ++ literal ∷ []) (trail ++ literal ∷ held_by (literal ∷ []) (F.vars + 1) opening.pairs) self.old }

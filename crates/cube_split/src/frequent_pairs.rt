@@ -1,4 +1,4 @@
-//! The pairs of literals that occur together in the most short clauses.
+//! The most frequent pairs: those whose literals occur together in the most short clauses.
 
 ghost use Rattle.std.specs.Prelude.{◌≡◌, ℕ, ◌+◌, ◌*◌, ◌<◌, ◌≤◌, ◌++◌, List, [], length, All, Contains, IfOk, OnOk};
 ghost use Rattle.cube_split.specs.Definitions.{IsPairOf};
@@ -12,8 +12,8 @@ use crate::pair::{Pair, pairs_of, rank};
 use dimacs::{Formula, Lit};
 use std::alloc::{AllocError, Global};
 
-/// Inserts a number into a sorted list that is cut to `limit`. A number that is not kept costs one comparison.
-fn keep(best: &mut Vec<u128>, limit: usize, number: u128) -> Result<(), AllocError>
+/// Inserts a number into a rising list, which is then cut to `limit` numbers. A number that is not kept costs one comparison.
+fn insert_lowest(best: &mut Vec<u128>, limit: usize, number: u128) -> Result<(), AllocError>
     requires { AreRising best.old.items }
     ensures { OnOk result (IsKept limit number best.old.items best.new.items) }
 {
@@ -26,7 +26,8 @@ fn keep(best: &mut Vec<u128>, limit: usize, number: u128) -> Result<(), AllocErr
     Ok(())
 }
 
-/// Inserts the rank of a run of `count` equal keys, if the run is not empty.
+/// Inserts a pair into the list `best` of the lowest ranks, at the end of its run of `count` equal
+/// keys in the sorted list. The empty run before the first key is ignored.
 fn keep_run(best: &mut Vec<u128>, limit: usize, key: u64, count: u64) -> Result<(), AllocError>
     requires below { key < 72057594037927936 }
     requires rising { AreRising best.old.items }
@@ -34,12 +35,12 @@ fn keep_run(best: &mut Vec<u128>, limit: usize, key: u64, count: u64) -> Result<
         → AreLowest limit (seen ++ closed_run key count) best.new.items) }
 {
     if count > 0 {
-        keep(best, limit, rank(count, key))?;
+        insert_lowest(best, limit, rank(count, key))?;
     }
     Ok(())
 }
 
-/// The `limit` lowest ranks, rising, of the keys in a sorted list: one rank for each run of equal keys.
+/// The `limit` lowest ranks of the keys in a sorted list, rising: one rank for each run of equal keys.
 fn best_ranks(alloc: Global, keys: &[u64], limit: usize) -> Result<Vec<u128>, AllocError>
     requires below { All (λ k. k < 72057594037927936) keys.now }
     requires apart { AreApart (ranks_from 0 0 keys.now) }
@@ -60,7 +61,7 @@ fn best_ranks(alloc: Global, keys: &[u64], limit: usize) -> Result<Vec<u128>, Al
     Ok(best)
 }
 
-/// The pairs for which `defs` variables are defined, found by sorting their keys.
+/// The pairs for which up to `defs` variables are defined, found by sorting the pairs' keys. `units` are the pure literals.
 fn counted_pairs(
     alloc: Global,
     formula: &Formula,
@@ -77,8 +78,8 @@ fn counted_pairs(
     pairs_of(alloc, &ranks)
 }
 
-/// The pairs for which `defs` variables are defined, or fewer if no pair is left: each is, of those not taken yet, the one that
-/// occurs in the most short clauses, and of several the first by its variables and signs. `units` are the pure literals.
+/// The pairs for which `defs` variables are defined, or fewer if no pair is left. Each is, of the pairs that are not taken yet, the one
+/// that occurs in the most short clauses, and of several the first by its variables and signs. `units` are the pure literals.
 #[tactic(auto, using(crate::proofs::DefinedLemmas::all_chosen, crate::proofs::DefinedLemmas::few_chosen))]
 pub(crate) fn defined_pairs(
     alloc: Global,

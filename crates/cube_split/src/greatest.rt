@@ -15,8 +15,8 @@ pub(crate) fn is_unmarked(marks: &[bool], var: Var) -> bool
     !(marks[row] || marks[row + 1])
 }
 
-/// Whether a variable has a greater count than the best so far, or the same and a lower number; if there is none so far, whether its
-/// count is above 0.
+/// Whether a variable is better than the best so far: its count is greater, or the same and its number lower; if there is none so far,
+/// whether its count is above 0.
 fn is_ahead(counts: &[usize], var: Var, best: &Option<Var>) -> bool
     requires var { var < length counts.now }
     requires best { IfSome best.now (λ b. b < length counts.now) }
@@ -33,8 +33,8 @@ fn is_ahead(counts: &[usize], var: Var, best: &Option<Var>) -> bool
     }
 }
 
-/// Of the unmarked variables the one that has the greatest count, and of several the lowest; None if every such count is 0.
-/// `variables` lists every variable whose count is above 0.
+/// The unmarked variable that has the greatest count, and of several the lowest; None if every such count is 0. `variables` lists every
+/// variable whose count is above 0.
 pub(crate) fn greatest(marks: &[bool], counts: &[usize], variables: &[Var]) -> Option<Var>
     requires size { length marks.now ≡ 2 * length counts.now }
     requires listed { AreListed counts.now variables.now }

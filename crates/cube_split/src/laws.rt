@@ -30,14 +30,14 @@ pub fn definitions_are_settled()
     ensures few { (F : Cnf) (defs : ℕ) (pairs : List Pair) → AreDefined F defs [] pairs → length pairs ≤ defs }
 {}
 
-/// A variable on which a cube is split is not in the cube, and is the formula's or a defined one.
+/// A variable on which a cube is split has no literal in the cube, and is one of the formula's or a defined one.
 pub fn choices_are_free()
     ensures free { (F : Cnf) (opening : Opening) (cube : Cube) (v : ℕ) → Chooses F opening cube (Some v) → IsFree cube v }
     ensures within { (F : Cnf) (opening : Opening) (cube : Cube) (v : ℕ) → IsFormula F → Chooses F opening cube (Some v)
         → (0 < v) × (v ≤ F.vars + length opening.pairs) }
 {}
 
-/// The base with no definitions is the formula's own base.
+/// The base of a formula with no definitions is the formula's own base.
 pub fn without_definitions()
     ensures { (F B : Cnf) → IsBaseWith F 0 B → B ≡ base_of F }
 {}

@@ -13,7 +13,7 @@ mod frequent_pairs;
 mod greatest;
 mod laws;
 mod marks;
-mod open;
+mod open_clauses;
 mod opened;
 mod pair;
 mod places;

@@ -8,7 +8,7 @@ ghost use Rattle.cube_split.specs.inner.Marks.{AreMarked};
 use dimacs::Lit;
 use std::alloc::{AllocError, Global};
 
-/// Marks literals. A literal outside the table is ignored.
+/// Sets the marks of these literals. A literal outside the table is ignored.
 pub(crate) fn mark(marks: &mut [bool], literals: &[Lit])
     ensures { (test : Literal → Bool) → AreMarked marks.old test → AreMarked marks.new (λ l. test l || has literals.now l) }
 {
@@ -20,9 +20,9 @@ pub(crate) fn mark(marks: &mut [bool], literals: &[Lit])
     }
 }
 
-/// A table for the variables up to `vars`, in which these literals are marked.
+/// A table for the variables up to `vars` in which exactly these literals are marked.
 pub(crate) fn marks_of(alloc: Global, literals: &[Lit], vars: u32) -> Result<Vec<bool>, AllocError>
-    requires { vars ≤ 1000064 }
+    requires { vars ≤ 100000063 }
     ensures marked { IfOk result (λ m. AreMarked m.items (has literals.now)) }
     ensures size { IfOk result (λ m. length m.items ≡ 2 * (vars + 1)) }
 {
@@ -31,7 +31,7 @@ pub(crate) fn marks_of(alloc: Global, literals: &[Lit], vars: u32) -> Result<Vec
     Ok(marks)
 }
 
-/// Clears the marks of literals. A literal outside the table is ignored.
+/// Clears the marks of these literals. A literal outside the table is ignored.
 pub(crate) fn unmark(marks: &mut [bool], literals: &[Lit])
     ensures { (test : Literal → Bool) → AreMarked marks.old test → AreMarked marks.new (λ l. test l && not (has literals.now l)) }
 {

@@ -15,7 +15,7 @@ use std::marker::Model;
 /// Several machines can begin on one of these, so that the preamble is computed once.
 pub struct Opened {
     formula: Formula,
-    // how many definitions are wanted, 0 to 64
+    /// The number of definitions that are wanted, 0 to 64.
     defs: u32,
     preamble: Preamble,
 }
@@ -43,7 +43,7 @@ impl Model for Opened {
 }
 
 impl Opened {
-    /// The formula with `defs` definitions, 0 to 64, or fewer if no pair is left.
+    /// Computes the preamble of a formula, with `defs` definitions, 0 to 64, or fewer if no pair is left.
     pub fn of(alloc: Global, formula: Formula, defs: u32) -> Result<Opened, AllocError>
         requires { defs ≤ 64 }
         ensures formula { IfOk result (λ o. o.formula ≡ formula) }
@@ -65,14 +65,14 @@ impl Opened {
         &self.formula
     }
 
-    /// How many definitions are wanted, 0 to 64.
+    /// The number of definitions that are wanted, 0 to 64.
     pub fn defs(&self) -> u32
         ensures { result ≡ self.now.definitions.wanted }
     {
         self.defs
     }
 
-    /// Its preamble.
+    /// The preamble of the formula.
     pub fn preamble(&self) -> &Preamble
         ensures units { result.now.units ≡ pure_literals self.now.formula }
         ensures pairs { result.now.pairs ≡ self.now.definitions.pairs }
@@ -82,7 +82,7 @@ impl Opened {
         &self.preamble
     }
 
-    /// The formula, how many definitions are wanted, and the preamble.
+    /// Hands out the formula, the number of definitions that are wanted, and the preamble.
     pub fn into_parts(self) -> (Formula, u32, Preamble)
         ensures whole { record { formula = result.0; definitions = record { wanted = result.1; pairs = result.2.pairs } } ≡ self }
         ensures units { result.2.units ≡ pure_literals result.0 }

@@ -8,23 +8,25 @@ ghost use Rattle.cube_split.specs.inner.Ranks.{key_of, rank_of, pair_of, pair_ra
 use dimacs::{Lit, Var};
 use std::alloc::{AllocError, Global};
 
-/// Two literals of different variables, that of the lower variable first.
+/// A pair: two literals of different variables, that of the lower variable first.
 #[derive(Clone, Copy)]
 pub struct Pair {
+    /// The literal of the lower variable.
     pub first: Lit,
+    /// The literal of the higher variable.
     pub second: Lit,
 }
 
-/// Every variable is below: 27 bits of a key for each of the two.
+/// A bound above every variable: a key has 27 bits for each of the two.
 const VARIABLES: u64 = 1 << 27;
-/// Every key is below: two variables and two signs, 56 bits.
+/// A bound above every key: a key has two variables and two signs, 56 bits.
 const KEYS: u128 = 1 << 56;
-/// No count is above, as there are no more clauses.
+/// The greatest count: a formula has no more clauses.
 const COUNTS: u64 = (1 << 27) - 1;
 
 impl Pair {
-    /// Its key: from the highest bits down the first variable, the second variable, the first literal's sign, the second's
-    /// (1 for negative). So keys are in the order of pairs.
+    /// The key of a pair: from the highest bits down the first variable, the second variable, the first literal's sign, and the second's (1
+    /// for negative). So the order of keys is the order of pairs.
     pub(crate) fn key(self) -> u64
         requires first { var_of self.first < 134217728 }
         requires second { var_of self.second < 134217728 }
@@ -37,7 +39,7 @@ impl Pair {
             + u64::from(self.second.is_negative())
     }
 
-    /// The pair of a rank.
+    /// Unpacks the pair from a rank, whose lower bits are the pair's key.
     fn of_rank(rank: u128) -> Pair
         requires first { 536870912 ≤ rank % 72057594037927936 }
         requires second { 0 < rank % 72057594037927936 / 4 % 134217728 }
@@ -65,8 +67,8 @@ fn literal(variable: u64, sign: u64) -> Lit
     }
 }
 
-/// The rank of a key that occurred `count` times: keys of higher counts have lower ranks, and keys of one count are in their order.
-/// The count's 27 bits are above the key's 56.
+/// The rank of a key that occurred `count` times: keys of higher counts have lower ranks, and keys of one count are in their order. The
+/// count has the 27 bits above the key's 56.
 pub(crate) fn rank(count: u64, key: u64) -> u128
     requires { key < 72057594037927936 }
     ensures { result ≡ rank_of count key }
@@ -74,7 +76,7 @@ pub(crate) fn rank(count: u64, key: u64) -> u128
     u128::from(COUNTS.saturating_sub(count)) * KEYS + u128::from(key)
 }
 
-/// The pair of each rank.
+/// The pairs of these ranks, in their order.
 pub(crate) fn pairs_of(alloc: Global, ranks: &[u128]) -> Result<Vec<Pair>, AllocError>
     requires { All (λ r. (536870912 ≤ r % 72057594037927936) × (0 < r % 72057594037927936 / 4 % 134217728)) ranks.now }
     ensures { IfOk result (λ pairs. pairs.items ≡ map pair_ranked ranks.now) }

@@ -1,4 +1,5 @@
-//! The preamble of a formula: the unit clauses of its pure literals, and definitions.
+//! The preamble of a formula: the unit clauses of its pure literals, and definitions. A literal is pure if it occurs in the formula and its
+//! negation does not.
 
 ghost use Rattle.std.specs.Prelude.{◌≡◌, ◌+◌, ◌*◌, ◌<◌, ◌≤◌, ◌&&◌, ◌∷◌, [], not, filter, length, vec_len, All, Bool, List, IfOk, option_to_list};
 ghost use Rattle.dimacs.specs.logic.Base.{occurs, pure_literals};
@@ -23,7 +24,7 @@ fn mark_occurring(marks: &mut [bool], formula: &Formula)
     }
 }
 
-/// The literal of a variable that is marked while its negation is not, if there is one.
+/// The literal of a variable that is marked while its negation is not; None if both or neither are marked.
 fn pure_literal(marks: &[bool], var: Var) -> Option<Lit>
     requires { 2 * var + 1 < length marks.now }
     ensures { (test : Literal → Bool) → AreMarked marks.now test →
@@ -38,9 +39,9 @@ fn pure_literal(marks: &[bool], var: Var) -> Option<Lit>
     }
 }
 
-/// The literals of the variables from 1 to `vars` that are marked while their negations are not, variables rising.
+/// The literals of the variables from 1 to `vars` that are marked while their negations are not, in the order of the variables.
 fn pure_units(alloc: Global, marks: &[bool], vars: u32) -> Result<Vec<Lit>, AllocError>
-    requires limit { vars ≤ 1000000 }
+    requires limit { vars ≤ 99999999 }
     requires size { 2 * vars + 1 < length marks.now }
     ensures units { (clauses : List Clause) → AreMarked marks.now (occurs clauses) →
         IfOk result (λ u. u.items ≡ pure_literals (record { vars = vars; clauses = clauses })) }
@@ -56,8 +57,7 @@ fn pure_units(alloc: Global, marks: &[bool], vars: u32) -> Result<Vec<Lit>, Allo
     Ok(units)
 }
 
-/// The preamble of a formula: the unit clause of each pure literal, variables rising. A literal is pure if it occurs in the formula and
-/// its negation does not.
+/// Computes the preamble of a formula without definitions: the unit clause of each pure literal, in the order of the variables.
 pub fn preamble(alloc: Global, formula: &Formula) -> Result<Preamble, AllocError>
     ensures units { IfOk result (λ p. p ≡ pure_opening formula.now) }
     ensures within { IfOk result (λ p. All (IsWithin formula.now.vars) p.units) }
@@ -65,9 +65,10 @@ pub fn preamble(alloc: Global, formula: &Formula) -> Result<Preamble, AllocError
     preamble_with(alloc, formula, 0)
 }
 
-/// The same units, followed by `defs` definitions, or fewer if no pair is left. Each is of the pair of literals, not taken yet, that occur
-/// together in the most clauses of two or three distinct literals. Of several it is that of the lowest first variable, then of the lowest
-/// second variable, then with a positive first literal, then with a positive second one.
+/// Computes the preamble of a formula: the unit clause of each pure literal, and `defs` definitions, or fewer if no pair is left. Each
+/// definition is of the pair of literals, not taken yet, that occur together in the most clauses of two or three distinct literals. Of
+/// several it is that of the lowest first variable, then of the lowest second variable, then with a positive first literal, then with a
+/// positive second one.
 pub fn preamble_with(alloc: Global, formula: &Formula, defs: u32) -> Result<Preamble, AllocError>
     requires { defs ≤ 64 }
     ensures units { IfOk result (λ p. p.units ≡ pure_literals formula.now) }

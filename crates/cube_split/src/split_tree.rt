@@ -17,8 +17,8 @@ use dimacs::{Formula, Lit, Var};
 use icnf::{Tree, TreeBuilder};
 use std::alloc::{AllocError, Global};
 
-/// Replaces a leaf by its two branches on a variable that is not in the leaf's cube, the positive branch first. If memory is
-/// refused, the tree is unchanged.
+/// Splits a leaf of a tree: replaces it by its two branches on a variable that is not in the leaf's cube, the positive branch first. If
+/// memory is refused, the tree is unchanged.
 pub fn grow(tree: &mut Tree, leaf: usize, var: Var) -> Result<(), AllocError>
     requires leaf { leaf < length tree.old }
     requires limit { length tree.old < 65536 }
@@ -30,7 +30,7 @@ pub fn grow(tree: &mut Tree, leaf: usize, var: Var) -> Result<(), AllocError>
     tree.split(leaf, var)
 }
 
-/// The variable on which the cube of a walk's path is split; None if no level is left.
+/// The variable on which the cube of a walk's path is split; None if no level is left, or if the rule does not split it.
 fn next_choice(walk: &Descent, levels: u32) -> Option<Var>
     requires { (F : Cnf) × (opening : Opening) × (path : Cube) × (trail : Cube) × IsDescentAt F opening path trail walk.now }
     ensures none { IfNone result ((F : Cnf) (opening : Opening) (path trail : Cube) → IsDescentAt F opening path trail walk.now → (levels ≡ 0) ⊎ Chooses F opening path None) }
@@ -42,7 +42,8 @@ fn next_choice(walk: &Descent, levels: u32) -> Option<Var>
     walk.choice()
 }
 
-/// Appends the leaves below the path and a literal of the chosen variable, split by the rule at most `levels` deep.
+/// Goes down to the branch of a literal of the chosen variable, appends the leaves there, split by the rule at most `levels` deep, and goes
+/// back up.
 #[cycle(growing)]
 fn append_branch(
     walk: &mut Descent,
@@ -69,7 +70,7 @@ fn append_branch(
     Ok(())
 }
 
-/// Appends the leaves below a path, split by the rule at most `levels` deep.
+/// Appends the leaves below a path, split by the rule at most `levels` deep: the path itself if it is not split.
 #[cycle(growing)]
 fn append_below(
     walk: &mut Descent,
@@ -95,8 +96,8 @@ fn append_below(
     }
 }
 
-/// The tree that the split rule makes of a formula with a preamble: each leaf whose cube has fewer than `depth` literals is split on
-/// the variable that `choose` answers, if there is one.
+/// Makes the tree of a formula with a preamble by the split rule: each leaf whose cube has fewer than `depth` literals is split on the
+/// variable that `choose` answers, if there is one.
 pub fn tree_with(
     alloc: Global,
     formula: &Formula,
@@ -119,7 +120,7 @@ pub fn tree_with(
     Ok(leaves.finish())
 }
 
-/// The tree that the split rule makes of a formula with the preamble of its pure literals: each leaf whose cube has fewer than `depth`
+/// Makes the tree of a formula with the preamble of its pure literals by the split rule: each leaf whose cube has fewer than `depth`
 /// literals is split on the variable that `choose` answers, if there is one.
 pub fn tree(alloc: Global, formula: &Formula, depth: u32) -> Result<Tree, AllocError>
     requires { depth ≤ 16 }
@@ -127,7 +128,7 @@ pub fn tree(alloc: Global, formula: &Formula, depth: u32) -> Result<Tree, AllocE
     // No cube has a variable above the greatest that occurs in a clause.
     ensures within { IfOk result (AreWithin (greatest_in formula.now.clauses)) }
 {
-    let _ = formula.vars(); // a model's invariant: the formula is within its limits
+    let _ = formula.vars(); // for proofs: the formula is within its limits
     let preamble = preamble(alloc, formula)?;
     tree_with(alloc, formula, &preamble, depth)
 }

@@ -1,4 +1,4 @@
-//! Counts in how many clauses each variable occurs.
+//! A tally: in how many clauses each variable occurs.
 
 ghost use Rattle.std.specs.Prelude.{◌≡◌, ◌≢◌, ℕ, ◌+◌, ◌*◌, ◌<◌, ◌≤◌, ◌⊎◌, length, slice_index, take, All, Bool, IfOk, cond, count_by, not, ◌&&◌};
 ghost use Rattle.std.specs.List.{list_any};
@@ -11,21 +11,21 @@ use crate::marks::is_apart;
 use dimacs::{Formula, Lit, Var};
 use std::alloc::{AllocError, Global};
 
-/// In how many clauses each variable occurs. Clearing costs as much as counting did, independent of the number of variables.
+/// The number of clauses in which each variable occurs. Clearing takes as long as counting did, whatever the number of variables.
 #[derive(Drop)]
 pub(crate) struct Tally {
-    /// By variable, how many clauses.
+    /// By variable, the number of its counted clauses.
     pub counts: Vec<usize>,
-    /// By variable, the number of the last of its clauses; 0 if it occurs in none.
+    /// By variable, the number of the last of its counted clauses, from 1; 0 if there is none.
     pub last: Vec<usize>,
-    /// The first `len` entries are the variables that occur in a clause, in the order in which they came.
+    /// The first `len` entries are the variables that occur in a counted clause, in the order in which they came.
     pub met: Vec<Var>,
-    /// How many variables occur in a clause.
+    /// The number of variables that occur in a counted clause.
     pub len: usize,
 }
 
 impl Tally {
-    /// Every count 0, for variables below `rows`.
+    /// A tally of no clause, for the variables below `rows`.
     pub(crate) fn new(alloc: Global, rows: usize) -> Result<Tally, AllocError>
         requires { 0 < rows }
         ensures { IfOk result (IsClear rows) }
@@ -38,7 +38,8 @@ impl Tally {
         })
     }
 
-    /// Counts the clause of this number for one of its variables, unless the clause counted for this variable before.
+    /// Counts the clause of this number for one of its variables, unless the variable occurred in
+    /// it before, and lists the variable when it is counted for the first time.
     fn meet(&mut self, var: Var, number: usize)
         requires tally { IsTally self.old }
         requires inside { var < length self.old.counts.items }
@@ -62,7 +63,7 @@ impl Tally {
         self.counts[row] += 1;
     }
 
-    /// Counts a clause once for each of its variables.
+    /// Counts the clause of this number, from 1, once for each of its variables.
     fn count_clause(&mut self, clause: &[Lit], number: usize)
         requires tally { IsTally self.old }
         requires within { All (λ l. var_of l < length self.old.counts.items) clause.now }
@@ -79,7 +80,7 @@ impl Tally {
         }
     }
 
-    /// Counts for each variable the clauses in which it occurs and no literal is marked. All counts are 0 before.
+    /// Counts for each variable the clauses without a marked literal in which it occurs. All counts are 0 before.
     pub(crate) fn count_clauses(&mut self, marks: &[bool], formula: &Formula)
         requires clear { IsClear (length self.old.counts.items) self.old }
         requires marks { length marks.now ≡ 2 * length self.old.counts.items }
@@ -97,7 +98,7 @@ impl Tally {
         }
     }
 
-    /// The variables that occur in a counted clause.
+    /// The variables that occur in a counted clause, each once.
     pub(crate) fn variables(&self) -> &[Var]
         requires { IsTally self.now }
         ensures { AreListed self.now.counts.items result.now }
@@ -105,7 +106,7 @@ impl Tally {
         &self.met[..self.len]
     }
 
-    /// The variables that occur in a counted clause, and the counts.
+    /// Hands out the variables that occur in a counted clause, and the counts.
     pub(crate) fn into_parts(self) -> (Vec<Var>, Vec<usize>)
         requires { IsTally self }
         ensures listed { AreListed self.counts.items result.0.items }
@@ -116,7 +117,8 @@ impl Tally {
         (variables, self.counts)
     }
 
-    /// Sets all counts to 0.
+    /// Sets all counts to 0. Only the listed variables are visited, so the time is that of the
+    /// counted clauses and not of all variables.
     pub(crate) fn clear(&mut self)
         requires { IsTally self.old }
         ensures { IsClear (length self.old.counts.items) self.new }
@@ -126,7 +128,7 @@ impl Tally {
     }
 }
 
-/// Sets the rows of these variables to 0.
+/// Sets the counts and clause numbers of these variables to 0, before the next tally.
 fn clear(counts: &mut [usize], last: &mut [usize], variables: &[Var])
     requires last { length last.old ≡ length counts.old }
     requires within { All (λ v. v < length counts.old) variables.now }

@@ -1,4 +1,4 @@
-//! The preamble: what is added to a formula before it is split, unit clauses and definitions.
+//! The preamble of a formula: the unit clauses and definitions that are added to the formula before it is split.
 
 ghost use Rattle.std.specs.Prelude.{◌≡◌, ◌↔◌, ◌+◌, ◌*◌, ◌≤◌, ◌++◌, ◌∷◌, [], None, length, unwrap_or, All, IfOk, OnOk, OnErr};
 ghost use Rattle.dimacs.specs.logic.Base.{pure_literals, base_of};
@@ -12,8 +12,8 @@ use dimacs::{Base, Formula, Lit, Var};
 use std::alloc::{AllocError, Global};
 use std::marker::Model;
 
-/// What is added to a formula before it is split: the literals of unit clauses, at most one for each variable, and the pairs for which
-/// variables are defined, at most 64. The first pair defines the variable after the formula's last one, and so on.
+/// A preamble: the literals of unit clauses, at most one for each variable, and the pairs for which variables are defined, at most 64. The
+/// first pair defines the variable after the formula's last one, and so on.
 #[derive(Drop)]
 pub struct Preamble {
     units: Vec<Lit>,
@@ -28,22 +28,23 @@ impl Model for Preamble {
 
     ghost view = { λ p. record { units = p.units.items; pairs = p.pairs.items } };
 
-    ghost invariant = { λ p. (length p.units.items ≤ 1000000) × (length p.pairs.items ≤ 64) };
+    ghost invariant = { λ p. (length p.units.items ≤ 99999999) × (length p.pairs.items ≤ 64) };
 }
 
 impl Preamble {
+    /// A preamble of these unit clauses and pairs.
     pub(crate) fn new(units: Vec<Lit>, pairs: Vec<Pair>) -> Preamble
-        requires units { length units.items ≤ 1000000 }
+        requires units { length units.items ≤ 99999999 }
         requires pairs { length pairs.items ≤ 64 }
         ensures { result ≡ record { units = units.items; pairs = pairs.items } }
     {
         Preamble { units, pairs }
     }
 
-    /// The literals of its unit clauses.
+    /// The literals of the unit clauses.
     pub fn units(&self) -> &[Lit]
         ensures value { result.now ≡ self.now.units }
-        ensures limit { length result.now ≤ 1000000 }
+        ensures limit { length result.now ≤ 99999999 }
     {
         &self.units
     }
@@ -56,24 +57,24 @@ impl Preamble {
         &self.pairs
     }
 
-    /// The formula, followed by the unit clauses and the clauses of the definitions.
+    /// Makes the base: the formula, followed by the unit clauses and the clauses of the definitions.
     pub fn base(&self, alloc: Global, formula: &Formula) -> Result<Base, AllocError>
         requires units { All (IsWithin formula.now.vars) self.now.units }
         requires pairs { All (IsPairOf formula.now.vars) self.now.pairs }
         ensures opened { IfOk result (λ b. b ≡ opened formula.now self.now) }
         // With the formula's own pure literals as units it is the base that the formula's definition says.
         ensures base { self.now.units ≡ pure_literals formula.now → IfOk result (λ b. b ≡ base_with formula.now self.now.pairs) }
-        // The same without definitions.
+        // Without definitions it is the base of the formula and its pure literals.
         ensures plain { self.now ≡ pure_opening formula.now → IfOk result (λ b. b ≡ base_of formula.now) }
     {
-        let _ = formula.vars(); // a model's invariant: the formula is within its limits
+        let _ = formula.vars(); // for proofs: the formula is within its limits
         append_definitions(
             append_units(Base::of(alloc, formula)?, &self.units)?,
             &self.pairs,
         )
     }
 
-    /// The same; `None` if nothing is added, so that the formula is its own base, which takes no memory.
+    /// Makes the base; None if nothing is added, so that the formula is its own base, which takes no memory.
     pub fn own_base(&self, alloc: Global, formula: &Formula) -> Result<Option<Base>, AllocError>
         requires units { self.now.units ≡ pure_literals formula.now }
         requires pairs { All (IsPairOf formula.now.vars) self.now.pairs }
@@ -88,7 +89,7 @@ impl Preamble {
     }
 }
 
-/// The base that [`Preamble::own_base`] answered, or the formula itself.
+/// The base that [`Preamble::own_base`] made, or the formula itself if it made none.
 pub fn base_or<'a>(own: &'a Option<Base>, formula: &'a Formula) -> &'a Base
     ensures { result.now ≡ unwrap_or own.now formula.now }
 {
@@ -101,7 +102,7 @@ pub fn base_or<'a>(own: &'a Option<Base>, formula: &'a Formula) -> &'a Base
 /// Appends unit clauses to a base that is a formula.
 fn append_units(front: Base, units: &[Lit]) -> Result<Base, AllocError>
     requires formula { IsFormula front }
-    requires limit { length units.now ≤ 1000000 }
+    requires limit { length units.now ≤ 99999999 }
     requires within { All (IsWithin front.vars) units.now }
     ensures { IfOk result (λ b. b ≡ with_units front units.now) }
 {
@@ -116,8 +117,8 @@ fn append_units(front: Base, units: &[Lit]) -> Result<Base, AllocError>
 fn push_definition(base: &mut Base, variable: Var, pair: Pair) -> Result<(), AllocError>
     requires pair { IsPairOf variable pair }
     requires variable { variable ≤ base.old.vars }
-    requires room { length base.old.clauses + 3 ≤ 5000192 }
-    requires literals { literal_count base.old.clauses + 7 ≤ 51000448 }
+    requires room { length base.old.clauses + 3 ≤ 200000190 }
+    requires literals { literal_count base.old.clauses + 7 ≤ 1100000446 }
     ensures { OnOk result (base.new ≡ record base.old { clauses = base.old.clauses ++ all_clauses variable (pair ∷ []) }) }
 {
     let defined = Lit::positive(variable);
@@ -129,9 +130,9 @@ fn push_definition(base: &mut Base, variable: Var, pair: Pair) -> Result<(), All
 
 /// Adds a variable for each pair, and appends the clauses that define it.
 fn append_definitions(front: Base, pairs: &[Pair]) -> Result<Base, AllocError>
-    requires vars { front.vars ≤ 1000000 }
-    requires clauses { length front.clauses ≤ 5000000 }
-    requires literals { literal_count front.clauses ≤ 51000000 }
+    requires vars { front.vars ≤ 99999999 }
+    requires clauses { length front.clauses ≤ 199999998 }
+    requires literals { literal_count front.clauses ≤ 1099999998 }
     requires limit { length pairs.now ≤ 64 }
     requires within { All (IsPairOf front.vars) pairs.now }
     ensures { IfOk result (λ b. b ≡ with_definitions front pairs.now) }

@@ -1,4 +1,4 @@
-//! A walk along literals: which clauses they leave open, and which variable occurs in the most of these.
+//! A walk along literals: the clauses that they leave open, and the variable that occurs in the most of these.
 
 ghost use Rattle.std.specs.Prelude.{◌≡◌, ℕ, ◌+◌, ◌*◌, ◌<◌, ◌≤◌, ◌++◌, ◌∷◌, ◌&&◌, not, Bool, List, [], length, slice_index, count_by, All, IfOk};
 ghost use Rattle.std.specs.List.{list_any};
@@ -14,23 +14,24 @@ ghost use Rattle.cube_split.specs.inner.WalkInvariant.{IsWalkAt, IsClosedBy, fro
 use crate::definitions::mark_held;
 use crate::greatest::greatest;
 use crate::marks::{is_apart, marks_of};
-use crate::open::{close, reopen};
+use crate::open_clauses::{close, reopen};
 use crate::places::Places;
 use crate::tally::Tally;
 use crate::units::Preamble;
 use dimacs::{Formula, Lit, Var};
 use std::alloc::{AllocError, Global};
 
-/// The tables of a walk.
+/// The tables of a walk. The units are the literals that hold at the root; the trail has the literals that were entered since.
 pub(crate) struct Walk {
+    /// The occurrence lists of the formula.
     pub places: Places,
-    /// The variables that occur in a clause that has none of the units.
+    /// The variables that occur in a clause without a literal of the units.
     pub variables: Vec<Var>,
     /// By literal, whether it is a unit or on the trail.
     pub marks: Vec<bool>,
     /// By clause, the level at which it was closed: 1 by the units, 2 by the first literal of the trail, and so on; 0 if it is open.
     pub closed: Vec<u32>,
-    /// By variable, in how many open clauses it occurs.
+    /// By variable, the number of open clauses in which it occurs.
     pub counts: Vec<usize>,
     /// The level of the next literal that is entered.
     pub level: u32,
@@ -49,12 +50,13 @@ impl Drop for Walk {
     }
 }
 
-/// By clause, 1 if it contains a marked literal, else 0.
+/// Makes the table of closed clauses at the root: 1, the level of the units, for a clause that
+/// contains a marked literal, and 0 for an open one.
 fn closed_by_units(alloc: Global, marks: &[bool], formula: &Formula) -> Result<Vec<u32>, AllocError>
     requires { 2 * formula.now.vars + 1 < length marks.now }
     ensures { IfOk result (λ v. (test : Literal → Bool) → AreMarked marks.now test → IsClosedBy test formula.now.clauses v.items) }
 {
-    let _ = formula.vars(); // a model's invariant: the formula is within its limits
+    let _ = formula.vars(); // for proofs: the formula is within its limits
     let mut closed = Vec::new(alloc);
     for i in 0..formula.len() {
         let level = if is_apart(marks, formula.clause(i)) {
@@ -67,7 +69,7 @@ fn closed_by_units(alloc: Global, marks: &[bool], formula: &Formula) -> Result<V
     Ok(closed)
 }
 
-/// Counts for each variable the clauses without a marked literal in which it occurs.
+/// Counts for each variable the clauses without a marked literal in which it occurs. `rows` is above each variable.
 fn tally_of(
     alloc: Global,
     marks: &[bool],
@@ -87,7 +89,7 @@ fn tally_of(
 }
 
 impl Walk {
-    /// A walk at the root: the trail is empty, and what holds are the preamble's units and the pairs of those that are defined variables.
+    /// A walk at the root: the trail is empty, and the units are the preamble's units and the pairs of those that are defined variables.
     pub(crate) fn begin(
         alloc: Global,
         formula: &Formula,
@@ -116,7 +118,8 @@ impl Walk {
         })
     }
 
-    /// Of the variables without a literal in units and trail the one that occurs in the most open clauses.
+    /// The variable without a literal in units and trail that occurs in the most open clauses, and of several the lowest; None if there is
+    /// none.
     pub(crate) fn choice(&self) -> Option<Var>
         requires { (f : Cnf) × (units : List Literal) × (trail : Cube) × IsWalkAt f units trail self.now }
         ensures { (f : Cnf) (units : List Literal) (trail : Cube) → IsWalkAt f units trail self.now → Choice f (units ++ trail) result }
@@ -140,7 +143,8 @@ impl Walk {
         self.level += 1;
     }
 
-    /// Takes this literal, the last one, off the trail, and reopens the clauses that it closed. It is the only one of its variable.
+    /// Takes this literal, the last one, off the trail, and opens the clauses again that it closed. It is the only literal of its variable
+    /// there.
     pub(crate) fn leave(&mut self, literal: Lit)
         requires { (f : Cnf) × (units : List Literal) × (trail : Cube) × IsWalkAt f units (trail ++ literal ∷ []) self.old × IsFree (units ++ trail) (var_of literal) × (var_of literal ≤ f.vars) }
         ensures { (f : Cnf) (units : List Literal) (trail : Cube) → IsWalkAt f units (trail ++ literal ∷ []) self.old → IsFree (units ++ trail) (var_of literal) → IsWalkAt f units trail self.new }

@@ -5,10 +5,11 @@ use Rattle.std.specs.List.{AllByRecursion}
 use Rattle.std.proofs.lemmas.Bool.{ne_eqb}
 use Rattle.std.proofs.lemmas.Fmt.{decimal_by_steps}
 use Rattle.dimacs.specs.logic.Cnf.{Cnf}
+use Rattle.dimacs.specs.logic.Limits.{Limits}
 use Rattle.dimacs.specs.text.Rows.{AreRows}
 use Rattle.dimacs.proofs.WritingLemmas.{lines_line}
 use Rattle.icnf.specs.Leaves.{Cube}
-use Rattle.icnf.specs.Grammar.{AreTokens, IsHeader, Spells}
+use Rattle.icnf.specs.Grammar.{AreTokens, IsHeader, SpellsWithin}
 use Rattle.cubes_to_tree.specs.Completion.{added_line, added_lines}
 
 -- no byte ends a line
@@ -29,8 +30,8 @@ decimal_open n h = decimal_by_steps (λ k ds. IsOpen ds)
     (λ k ds ge e. open_push ds (48 + k % 10) e (ne_eqb (48 + k % 10) 10 (λ s. omega arith))) n h
 
 -- a line that begins with c may come before a text
-comment_ahead : (body rest : List ℕ) (f : Cnf) (cubes : List Cube) → IsOpen (99 ∷ body) → Spells rest f cubes → Spells ((99 ∷ body) ++ 10 ∷ rest) f cubes
-comment_ahead body rest f cubes plain h =
+comment_ahead : (L : Limits) (body rest : List ℕ) (f : Cnf) (cubes : List Cube) → IsOpen (99 ∷ body) → SpellsWithin L rest f cubes → SpellsWithin L ((99 ∷ body) ++ 10 ∷ rest) f cubes
+comment_ahead L body rest f cubes plain h =
     (h.0, subst (λ (ls : List (List ℕ)). AreRows IsHeader (λ ts. AreTokens ts f cubes) ls) (sym (lines_line (99 ∷ body) rest plain)) h.1, h.2)
 
 -- the line of a leaf, without its first byte and its end
@@ -48,9 +49,9 @@ line_split n more rest =
     ∙ sym (append_assoc (codes "c leaf " ++ decimal n) (codes " added") (10 ∷ (more ++ rest)))
 
 -- the lines of leaves may come before a text
-pub lines_ahead : (n : ℕ) (flags : List Bool) (rest : List ℕ) (f : Cnf) (cubes : List Cube) → n + length flags < 2 ^ 64 → Spells rest f cubes → Spells (added_lines n flags ++ rest) f cubes
-lines_ahead n [] rest f cubes h s = s
-lines_ahead n (true ∷ flags) rest f cubes h s =
-    subst (λ (text : List ℕ). Spells text f cubes) (sym (line_split n (added_lines (n + 1) flags) rest))
-    (comment_ahead (line_body n) (added_lines (n + 1) flags ++ rest) f cubes (line_open n (omega arith)) (lines_ahead (n + 1) flags rest f cubes (omega arith) s))
-lines_ahead n (false ∷ flags) rest f cubes h s = lines_ahead (n + 1) flags rest f cubes (omega arith) s
+pub lines_ahead : (L : Limits) (n : ℕ) (flags : List Bool) (rest : List ℕ) (f : Cnf) (cubes : List Cube) → n + length flags < 2 ^ 64 → SpellsWithin L rest f cubes → SpellsWithin L (added_lines n flags ++ rest) f cubes
+lines_ahead L n [] rest f cubes h s = s
+lines_ahead L n (true ∷ flags) rest f cubes h s =
+    subst (λ (text : List ℕ). SpellsWithin L text f cubes) (sym (line_split n (added_lines (n + 1) flags) rest))
+    (comment_ahead L (line_body n) (added_lines (n + 1) flags ++ rest) f cubes (line_open n (omega arith)) (lines_ahead L (n + 1) flags rest f cubes (omega arith) s))
+lines_ahead L n (false ∷ flags) rest f cubes h s = lines_ahead L (n + 1) flags rest f cubes (omega arith) s

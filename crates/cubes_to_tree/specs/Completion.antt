@@ -2,11 +2,12 @@
 use Rattle.std.specs.Prelude.{◌≡◌, ℕ, ◌+◌, ◌<◌, ◌≤◌, Bool, not, List, [], ◌∷◌, ◌++◌, length, map, All, Contains, None, Result, Ok, Err, codes, decimal, if◌then◌else◌}
 use Rattle.std.specs.List.{filter}
 use Rattle.std.specs.List.Sorted.{IsPermutation}
-use Rattle.dimacs.specs.logic.Cnf.{Cnf}
+use Rattle.dimacs.specs.logic.Cnf.{Cnf, FitsIn}
+use Rattle.dimacs.specs.logic.Limits.{Limits}
 use Rattle.dimacs.specs.logic.Literal.{Literal, Pos, Neg, negation}
 use Rattle.icnf.specs.declared.fault.IcnfFault.{IcnfFault}
 use Rattle.icnf.specs.Leaves.{Cube, IsFree}
-use Rattle.icnf.specs.Grammar.{Spells, formula_of, spelling}
+use Rattle.icnf.specs.Grammar.{SpellsWithin, formula_of, spelling}
 use Rattle.reports.specs.Faults.{cubes_fault_text}
 use Rattle.reports.specs.declared.report.Report.{Report}
 
@@ -75,11 +76,11 @@ pub record Prints (status : ℕ) (text : List ℕ) (r : Report) : Type 0 where
   pub text_is : r.stdout.items ≡ text
   pub no_proof : r.proof ≡ None
 
--- formula, cubes, report: a text that spells the formula's clauses and a tree that completes the cubes; or that such a tree has more than
--- 65,536 leaves
+-- formula, cubes, report: a text that spells, within each limits into which the formula fits, the formula's clauses and a tree that
+-- completes the cubes; or that such a tree has more than 65,536 leaves
 pub data PrintsTree (F : Cnf) (cubes : List Cube) (r : Report) : Type 0 where
   tree : (leaves : List CompletedLeaf) → Completes cubes leaves → length leaves ≤ 65536
-      → Spells (tree_text F leaves) (formula_of F.clauses) (cubes_in leaves) → Prints 0 (tree_text F leaves) r → PrintsTree F cubes r
+      → ((L : Limits) → FitsIn L F → SpellsWithin L (tree_text F leaves) (formula_of F.clauses) (cubes_in leaves)) → Prints 0 (tree_text F leaves) r → PrintsTree F cubes r
   above : (leaves : List CompletedLeaf) → Completes cubes leaves → 65536 < length leaves → Prints 1 above_limit_text r → PrintsTree F cubes r
 
 -- formula, cubes of a text or its first fault, report: what is printed of the text

@@ -62,7 +62,8 @@ impl CubeLine {
         }
     }
 
-    /// Appends a literal to the cube. Err if its variable is above `greatest` or in the cube already, or the cube has 64 literals.
+    /// Appends a literal to the cube. Err if its variable is above `greatest` or in the cube
+    /// already, or the cube has 64 literals.
     fn read_literal(&mut self, greatest: u32, line: u64, literal: Lit) -> Result<(), IcnfFault>
         ensures { Gives no_memory self.new result (read_literal greatest line literal self.old) }
     {

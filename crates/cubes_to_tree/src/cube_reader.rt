@@ -16,7 +16,8 @@ use dimacs::words::{next_line, next_word};
 use icnf::{IcnfFault, Kind};
 use std::alloc::Global;
 
-/// Inserts the cube of the line of this number, from 1. Err (`NotATree`) if it does not diverge from each cube before it.
+/// Inserts the cube of the line of this number, from 1, into the tree. Err (`NotATree`) if no
+/// splitting tree has this cube and those before it as leaves.
 fn put_cube(alloc: Global, root: &mut Node, line: u64, cube: &[Lit]) -> Result<(), IcnfFault>
     ensures { (greatest : ℕ) (cubes : List Cube) → IsTreeOf greatest cubes root.old → IsCube greatest cube.now → ReadLine greatest root.new result (put_cube line cubes cube.now) }
 {

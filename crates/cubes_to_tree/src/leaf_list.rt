@@ -19,7 +19,7 @@ pub(crate) struct LeafList {
 }
 
 impl LeafList {
-    /// Appends a leaf, and whether it was added.
+    /// Appends a leaf, and whether it was added to complete the tree.
     fn push(&mut self, cube: &[Lit], added: bool) -> Result<(), AllocError>
         requires room { length self.old.cubes < 65536 }
         requires short { length cube.now ≤ 64 }

@@ -26,7 +26,8 @@ pub(crate) enum Node {
     },
 }
 
-/// A fork with the subtree `below` in the branch of the literal, and an empty leaf in the other branch.
+/// A fork on the variable of a literal, with the subtree `below` in the literal's branch and an
+/// empty leaf, to be added, in the other.
 fn fork(alloc: Global, literal: Lit, below: Node) -> Result<Node, AllocError>
     ensures given { IfOk result (λ n. given_below n ≡ map (λ c. literal ∷ c) (given_below below)) }
     ensures below { IfOk result (MakesFork literal below) }
@@ -48,7 +49,8 @@ fn fork(alloc: Global, literal: Lit, below: Node) -> Result<Node, AllocError>
     })
 }
 
-/// Builds the subtree of this cube alone.
+/// Builds the subtree of this cube alone: a fork for each literal, whose other branch is an empty
+/// leaf.
 fn grown(alloc: Global, cube: &[Lit]) -> Result<Node, AllocError>
     ensures given { IfOk result (λ n. given_below n ≡ cube.now ∷ []) }
     ensures below { IfOk result (λ n. (greatest : ℕ) (path : Cube) → IsRest greatest path cube.now → IsBelow greatest path n) }
@@ -60,8 +62,9 @@ fn grown(alloc: Global, cube: &[Lit]) -> Result<Node, AllocError>
     fork(alloc, *first, below)
 }
 
-/// Inserts a cube below a node, if it diverges from each cube there, and answers true. Answers false if it does not, and then nothing
-/// changes.
+/// Inserts a cube below a node. It answers false, and changes nothing, if no splitting tree has all
+/// these cubes as leaves: the cube ends at a fork, goes on below a leaf, or has another variable
+/// than the fork.
 pub(crate) fn put(alloc: Global, node: &mut Node, cube: &[Lit]) -> Result<bool, AllocError>
     ensures { IfOk result (λ b. PutOutcome cube.now node.old b node.new) }
 {
@@ -89,7 +92,7 @@ pub(crate) fn put(alloc: Global, node: &mut Node, cube: &[Lit]) -> Result<bool, 
     }
 }
 
-/// Counts the leaves of a subtree, up to 65,537.
+/// Counts the leaves of a subtree, up to 65,537: one more than a tree may have.
 pub(crate) fn count(node: &Node) -> usize
     ensures { result ≡ min 65537 (leaf_count node.now) }
 {

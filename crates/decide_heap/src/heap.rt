@@ -1,4 +1,4 @@
-//! The decision heap: its public calls.
+//! The decision heap: a priority queue of variables by score.
 
 ghost use Rattle.std.specs.Prelude.{◌≡◌, ℕ, ◌+◌, ◌/◌, ◌^◌, ◌<◌, ◌≤◌, true, false, [], map, OnOk, OnErr, IfNone, IfSome};
 ghost use Rattle.decide_heap.specs.Decisions.{Decisions, IsWithin, IsBest, score_of, is_in, saturating_successor, saturating_sum, with_room, with_member, with_score};
@@ -8,9 +8,11 @@ use dimacs::Var;
 use std::alloc::{AllocError, Global};
 use std::marker::Model;
 
-/// A heap of variables by score. Each variable has a score, in the heap or out of it. Only `reserve` takes memory.
+/// A heap of variables by score. Each variable from 1 to the number of variables has a score, in the heap or out of it. Only `reserve`
+/// takes memory.
 #[derive(Drop)]
 pub struct DecideHeap {
+    /// The tables. The row of a variable is its number less 1.
     rows: Rows,
 }
 
@@ -49,7 +51,7 @@ impl DecideHeap {
         Ok(())
     }
 
-    /// Inserts a variable. Nothing changes if it is in the heap.
+    /// Inserts a variable into the heap. Nothing changes if it is in the heap.
     pub fn insert(&mut self, var: Var)
         requires { IsWithin self.old var }
         ensures member { self.new ≡ with_member self.old var true }
@@ -92,14 +94,14 @@ impl DecideHeap {
         self.rows.raise_by(var.number() as usize - 1, amount);
     }
 
-    /// Halves all scores, rounding down. Linear in the number of variables.
+    /// Halves all scores, rounding down. The time is linear in the number of variables.
     pub fn halve(&mut self)
         ensures { self.new ≡ record self.old { scores = map (λ n. n / 2) self.old.scores } }
     {
         self.rows.divide_all(2);
     }
 
-    /// Divides all scores by `by`, rounding down (rescoring). Linear in the number of variables.
+    /// Divides all scores by `by`, rounding down (rescoring). The time is linear in the number of variables.
     pub fn divide(&mut self, by: u64)
         requires { 0 < by }
         ensures { self.new ≡ record self.old { scores = map (λ n. n / by) self.old.scores } }
@@ -107,7 +109,8 @@ impl DecideHeap {
         self.rows.divide_all(by);
     }
 
-    /// Removes the variable with the greatest score, of several the one with the lowest number. None if the heap is empty.
+    /// Removes the variable with the greatest score from the heap and returns it, of several the one with the lowest number. None if the
+    /// heap is empty.
     pub fn pop_best(&mut self) -> Option<Var>
         ensures empty { IfNone result ((v : ℕ) → 0 < v → is_in self.old v ≡ false) }
         ensures none { IfNone result (self.new ≡ self.old) }

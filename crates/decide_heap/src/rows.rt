@@ -1,4 +1,4 @@
-//! The heap's three tables, and their growth by rows for more variables.
+//! The tables of a heap, and their growth by rows for more variables.
 
 ghost use Rattle.std.specs.Prelude.{◌≡◌, ◌^◌, ◌<◌, [], OnOk};
 ghost use Rattle.decide_heap.specs.Decisions.{with_room};
@@ -6,9 +6,9 @@ ghost use Rattle.decide_heap.specs.inner.Heap.{tables_of, decisions_of, AreRows,
 
 use std::alloc::{AllocError, Global};
 
-/// Three tables with a row for each variable; the row of a variable is its number less 1. `heap` is a permutation of the rows: the first
-/// `len` are a binary heap of the variables that are in, and those that are out follow. `places` is its inverse: the place of each row
-/// in `heap`.
+/// The tables of a heap, with a row for each variable; the row of a variable is its number less 1. `heap` is a permutation of the rows: the
+/// first `len` are a binary heap of the variables that are in, and those that are out follow. `places` is its inverse: the index of each
+/// row in `heap`. `scores` has the score of each row.
 #[derive(Drop)]
 pub struct Rows {
     pub heap: Vec<u32>,
@@ -30,7 +30,7 @@ impl Rows {
         }
     }
 
-    /// Reserves memory for `vars` rows. The tables are unchanged.
+    /// Reserves memory for `vars` rows in all. The tables are unchanged.
     pub fn make_room(&mut self, vars: usize) -> Result<(), AllocError>
         requires { AreRows (tables_of self.old) }
         ensures same { tables_of self.new ≡ tables_of self.old }
@@ -43,7 +43,7 @@ impl Rows {
         Ok(())
     }
 
-    /// Adds rows until there are `vars`. Each new variable is out of the heap, after the others, and has the score 0.
+    /// Appends rows until there are `vars`. Each new variable is out of the heap, after the others, and has the score 0.
     pub fn add_rows(&mut self, vars: usize)
         requires limit { vars < 2 ^ 31 }
         requires heap { IsHeap (tables_of self.old) }

@@ -1,5 +1,5 @@
-//! Sifting up and down. The variable that is sifted is taken out and leaves a hole. The hole moves along the path, as each variable on
-//! it moves by one place, and the sifted variable is written once, into the hole where it ends.
+//! Sifting up and down in the heap. The variable that is sifted is taken out and leaves a hole. The hole moves along the path, as each
+//! variable on it moves by one index, and the sifted variable is written once, into the hole where it ends.
 
 ghost use Rattle.std.specs.Prelude.{◌≡◌, ℕ, ◌+◌, ◌^◌, ◌<◌, ◌≤◌, length, slice_index, MatchBool};
 ghost use Rattle.decide_heap.specs.Decisions.{IsNoWorse};
@@ -8,7 +8,7 @@ ghost use Rattle.decide_heap.specs.inner.Heap.{tables_of, filled, AreRows, AreMo
 use crate::rows::Rows;
 
 impl Rows {
-    /// Whether `left` has to be decided before `right`: a greater score, or the same score and a lower number.
+    /// Whether row `left` has to be decided before row `right`: it has a greater score, or the same score and a lower number.
     #[inline]
     fn is_better(&self, left: u32, right: u32) -> bool
         requires left { left < length self.now.scores.items }
@@ -21,7 +21,8 @@ impl Rows {
         a > b || (a == b && left < right)
     }
 
-    /// The child with the better variable; `left` is the left child, and its sibling counts only if it is in the heap.
+    /// The index of the child with the better variable; `left` is the index of the left child, and its right sibling counts only if it is
+    /// in the heap.
     #[inline]
     fn better_child(&self, left: usize) -> usize
         requires within { left < self.now.len }
@@ -41,7 +42,7 @@ impl Rows {
         }
     }
 
-    /// Moves the hole at `start` up until `var` fits in it. Returns the place of the hole.
+    /// Moves the hole at index `start` up until row `var` fits in it. Returns the index of the hole.
     fn rise(&mut self, var: u32, start: usize) -> usize
         requires within { start < self.old.len }
         requires variable { var < length self.old.heap.items }
@@ -68,7 +69,7 @@ impl Rows {
         at
     }
 
-    /// Moves the hole at `start` down until `var` fits in it. Returns the place of the hole.
+    /// Moves the hole at index `start` down until row `var` fits in it. Returns the index of the hole.
     fn sink(&mut self, var: u32, start: usize) -> usize
         requires within { start < length self.old.heap.items }
         requires variable { var < length self.old.heap.items }
@@ -95,7 +96,7 @@ impl Rows {
         at
     }
 
-    /// Sifts the variable at a place up. Places after `start` are unchanged.
+    /// Sifts the row at index `start` of the heap up. What is after `start` is unchanged.
     pub fn sift_up(&mut self, start: usize)
         requires within { start < self.old.len }
         requires rows { AreRows (tables_of self.old) }
@@ -110,7 +111,7 @@ impl Rows {
         self.places[var as usize] = at as u32;
     }
 
-    /// Sifts the variable at a place down, among those that are in the heap.
+    /// Sifts the row at index `start` down, among those that are in the heap.
     pub fn sift_down(&mut self, start: usize)
         requires within { start < length self.old.heap.items }
         requires rows { AreRows (tables_of self.old) }
@@ -126,7 +127,7 @@ impl Rows {
         self.places[var as usize] = at as u32;
     }
 
-    /// Restores the heap order from any order: sifts down from the last place with a child to the first (Floyd's construction, linear).
+    /// Restores the heap order from any order: sifts down from the last index with a child to the first (Floyd's construction, linear).
     pub fn heapify(&mut self)
         requires { AreRows (tables_of self.old) }
         ensures moved { AreMoved (tables_of self.old) (tables_of self.new) }
@@ -141,7 +142,7 @@ impl Rows {
         }
     }
 
-    /// Exchanges the variables at two places.
+    /// Exchanges the rows at the indices i and j of `heap`.
     pub fn exchange(&mut self, i: usize, j: usize)
         requires first { i < length self.old.heap.items }
         requires second { j < length self.old.heap.items }

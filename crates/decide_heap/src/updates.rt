@@ -6,7 +6,7 @@ ghost use Rattle.decide_heap.specs.inner.Heap.{tables_of, decisions_of, IsHeap};
 
 use crate::rows::Rows;
 
-/// `score + 1`, saturating.
+/// Adds 1 to a score, saturating at 2^64 - 1.
 #[inline]
 fn next_score(score: u64) -> u64
     ensures { result ≡ saturating_successor score }
@@ -14,7 +14,7 @@ fn next_score(score: u64) -> u64
     if score < u64::MAX { score + 1 } else { score }
 }
 
-/// Divides each score, rounding down.
+/// Divides each score by `by`, rounding down.
 fn divide_each(scores: &mut [u64], by: u64)
     requires { 0 < by }
     ensures { scores.new ≡ map (λ n. n / by) scores.old }
@@ -25,7 +25,7 @@ fn divide_each(scores: &mut [u64], by: u64)
 }
 
 impl Rows {
-    /// Inserts a variable as the last of the heap and sifts it up. Nothing changes if it is in the heap.
+    /// Inserts a row as the last of the heap and sifts it up. Nothing changes if it is in the heap.
     pub fn insert_row(&mut self, row: usize)
         requires heap { IsHeap (tables_of self.old) }
         requires within { row < length self.old.scores.items }
@@ -44,7 +44,7 @@ impl Rows {
         self.sift_up(last);
     }
 
-    /// Removes the first variable: exchanges it with the last of the heap, which is sifted down.
+    /// Removes the first row from the heap and returns it: exchanges it with the last of the heap, which is sifted down.
     pub fn pop_first(&mut self) -> u32
         requires heap { IsHeap (tables_of self.old) }
         requires some { 0 < self.old.len }
@@ -61,7 +61,7 @@ impl Rows {
         first
     }
 
-    /// Sets a score that is no lower than the old one. Sifts the variable up if it is in the heap.
+    /// Sets the score of a row, which is no lower than the old one. Sifts the row up if it is in the heap.
     fn set_score(&mut self, row: usize, score: u64)
         requires heap { IsHeap (tables_of self.old) }
         requires within { row < length self.old.scores.items }
@@ -77,7 +77,7 @@ impl Rows {
         }
     }
 
-    /// Adds 1 to a variable's score, saturating. Sifts the variable up if it is in the heap.
+    /// Adds 1 to the score of a row, saturating at 2^64 - 1. Sifts the row up if it is in the heap.
     pub fn raise(&mut self, row: usize)
         requires heap { IsHeap (tables_of self.old) }
         requires within { row < length self.old.scores.items }
@@ -89,7 +89,7 @@ impl Rows {
         self.set_score(row, score);
     }
 
-    /// Adds `amount` to a variable's score, saturating. Sifts the variable up if it is in the heap.
+    /// Adds `amount` to the score of a row, saturating at 2^64 - 1. Sifts the row up if it is in the heap.
     pub fn raise_by(&mut self, row: usize, amount: u64)
         requires heap { IsHeap (tables_of self.old) }
         requires within { row < length self.old.scores.items }
@@ -101,8 +101,8 @@ impl Rows {
         self.set_score(row, score);
     }
 
-    /// Divides all scores, rounding down. Different scores may become equal, and then the lower variable has to come first, so the heap
-    /// order is restored.
+    /// Divides all scores by `by`, rounding down. Different scores may become equal, and then the lower variable has to come first, so the
+    /// heap order is restored.
     pub fn divide_all(&mut self, by: u64)
         requires divisor { 0 < by }
         requires heap { IsHeap (tables_of self.old) }

@@ -9,7 +9,7 @@ count_push : (cs : List Clause) (C : Clause) → literal_count (cs ++ C ∷ []) 
 count_push [] C = omega arith
 count_push (D ∷ cs) C = omega (arith, count_push cs C)
 
-pub base_push : (f : Cnf) (C : Clause) → IsBase f → length f.clauses < 5000192 → literal_count f.clauses + length C ≤ 51000448 → All (IsWithin f.vars) C
+pub base_push : (f : Cnf) (C : Clause) → IsBase f → length f.clauses < 200000190 → literal_count f.clauses + length C ≤ 1100000446 → All (IsWithin f.vars) C
     → IsBase (record f { clauses = f.clauses ++ C ∷ [] })
 base_push f C h room literals within = record {
   vars = h.vars;
@@ -24,6 +24,6 @@ count_take [] i h = absurd (omega arith)
 count_take (C ∷ cs) zero h = omega arith
 count_take (C ∷ cs) (suc i) h = omega (arith, count_take cs i (omega arith))
 
-pub pushed : (f g : Cnf) (new : List Clause) (C : Clause) → f ≡ g → IsBase f → length g.clauses < 5000192 → literal_count g.clauses + length C ≤ 51000448 → All (IsWithin g.vars) C
+pub pushed : (f g : Cnf) (new : List Clause) (C : Clause) → f ≡ g → IsBase f → length g.clauses < 200000190 → literal_count g.clauses + length C ≤ 1100000446 → All (IsWithin g.vars) C
     → new ≡ f.clauses ++ C ∷ [] → IsBase (record { vars = f.vars; clauses = new })
 pushed f g new C e h room literals within n = rw n (base_push f C h (rw e room) (rw e literals) (rw e within))

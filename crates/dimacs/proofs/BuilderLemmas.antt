@@ -152,7 +152,7 @@ laid_new = record {
   inside_one zero h = omega arith
   inside_one (suc i) h = absurd (omega arith)
 
-pub laid_push : (xs ys : Clause) (places : List ℕ) (l : Literal) (g m : ℕ) → IsLaid xs places g → length xs < 50000000 → 0 < var_of l → var_of l < 2 ^ 31 → m ≡ max g (var_of l) → ys ≡ xs ++ l ∷ [] → IsLaid ys places m
+pub laid_push : (xs ys : Clause) (places : List ℕ) (l : Literal) (g m : ℕ) → IsLaid xs places g → length xs < 999999999 → 0 < var_of l → var_of l < 2 ^ 31 → m ≡ max g (var_of l) → ys ≡ xs ++ l ∷ [] → IsLaid ys places m
 laid_push xs ys places l g m h room some small is e =
     let more = length-append xs (l ∷ []) in
     rw (is, e) record {
@@ -165,7 +165,7 @@ laid_push xs ys places l g m h room some small is e =
       limit = omega (arith, h.limit);
     }
 
-pub laid_end : (xs : Clause) (places more : List ℕ) (g n : ℕ) → IsLaid xs places g → length places ≤ 4000000 → n ≡ length xs → more ≡ places ++ n ∷ [] → IsLaid xs more g
+pub laid_end : (xs : Clause) (places more : List ℕ) (g n : ℕ) → IsLaid xs places g → length places ≤ 99999999 → n ≡ length xs → more ≡ places ++ n ∷ [] → IsLaid xs more g
 laid_end xs places more g n h room e f =
     rw f record {
       total = h.total;

@@ -4,7 +4,8 @@ use Rattle.std.specs.List.{All}
 use Rattle.std.proofs.lemmas.List.{take_more}
 use Rattle.std.proofs.lemmas.List.Elements.{All-append, All-weaker}
 use Rattle.dimacs.specs.layout.Flat.{parts, Fills}
-use Rattle.dimacs.specs.logic.Cnf.{Cnf, AreWithin, IsFormula, literal_count}
+use Rattle.dimacs.specs.logic.Cnf.{Cnf, AreWithin, FitsIn, IsFormula, literal_count}
+use Rattle.dimacs.specs.logic.Limits.{AreNoMore, Limits, large}
 use Rattle.dimacs.specs.logic.Extension.{extended}
 use Rattle.dimacs.specs.logic.Literal.{Literal, Clause, IsWithin}
 use Rattle.dimacs.proofs.BaseLemmas.{count_take}
@@ -21,19 +22,28 @@ clauses_within : (m n : ℕ) (cs : List Clause) → m ≤ n → AreWithin m cs �
 clauses_within m n cs le h = All-weaker (All (IsWithin m)) (All (IsWithin n)) (λ c w. within_more m n c le w) cs h
 
 -- the limits are those of the sums
-pub few_is_formula : (f x : Cnf) → IsFormula f → AreWithin x.vars x.clauses → max f.vars x.vars ≤ 1000000 → length f.clauses + length x.clauses ≤ 4000000
-    → literal_count f.clauses + literal_count x.clauses ≤ 50000000 → IsFormula (extended f x)
-few_is_formula f x h within vars clauses literals = record {
+few_fits : (L : Limits) (f x : Cnf) → max f.vars x.vars ≤ L.vars → length f.clauses + length x.clauses ≤ L.clauses
+    → literal_count f.clauses + literal_count x.clauses ≤ L.literals → FitsIn L (extended f x)
+few_fits L f x vars clauses literals = record {
   vars = vars;
   clauses = omega (arith, length-append f.clauses x.clauses);
   literals = omega (arith, count_append f.clauses x.clauses);
+}
+
+-- what fits into no larger limits is a formula
+pub fits_is_formula : (L : Limits) (f x : Cnf) → AreNoMore L large → IsFormula f → AreWithin x.vars x.clauses → FitsIn L (extended f x) → IsFormula (extended f x)
+fits_is_formula L f x le h within fits = record {
+  vars = omega (arith, fits.vars, le.0);
+  clauses = omega (arith, fits.clauses, le.1);
+  literals = omega (arith, fits.literals, le.2);
   within = All-append (All (IsWithin (max f.vars x.vars))) f.clauses x.clauses
       (clauses_within f.vars (max f.vars x.vars) f.clauses (omega arith) h.within)
       (clauses_within x.vars (max f.vars x.vars) x.clauses (omega arith) within);
 }
 
-pub formula_is_few : (f x : Cnf) → IsFormula (extended f x) → (max f.vars x.vars ≤ 1000000) × (length f.clauses + length x.clauses ≤ 4000000) × (literal_count f.clauses + literal_count x.clauses ≤ 50000000)
-formula_is_few f x h = (
+fits_is_few : (L : Limits) (f x : Cnf) → FitsIn L (extended f x)
+    → (max f.vars x.vars ≤ L.vars) × (length f.clauses + length x.clauses ≤ L.clauses) × (literal_count f.clauses + literal_count x.clauses ≤ L.literals)
+fits_is_few L f x h = (
   h.vars,
   omega (arith, h.clauses, length-append f.clauses x.clauses),
   omega (arith, h.literals, count_append f.clauses x.clauses),
@@ -61,41 +71,44 @@ pub record Lie (f x : Cnf) (xs more : List Literal) (places ends : List ℕ) : T
   pub clauses : parts xs places ≡ f.clauses
   pub more_clauses : parts more ends ≡ x.clauses
 
-abbrev pub AreFew : Cnf → Cnf → List Literal → List Literal → Type 0
-AreFew f x xs more = (max f.vars x.vars ≤ 1000000) × (length f.clauses + length x.clauses ≤ 4000000) × (length xs + length more ≤ 50000000)
+abbrev pub AreFew : Limits → Cnf → Cnf → List Literal → List Literal → Type 0
+AreFew L f x xs more = (max f.vars x.vars ≤ L.vars) × (length f.clauses + length x.clauses ≤ L.clauses) × (length xs + length more ≤ L.literals)
 
 counts : (f x : Cnf) (xs more : List Literal) (places ends : List ℕ) → Lie f x xs more places ends → (literal_count f.clauses ≡ length xs) × (literal_count x.clauses ≡ length more)
 counts f x xs more places ends l = (ap literal_count (sym l.clauses) ∙ fills_count xs places l.fills, ap literal_count (sym l.more_clauses) ∙ fills_count more ends l.more_fills)
 
-pub above : (f x : Cnf) (xs more : List Literal) (places ends : List ℕ) → Lie f x xs more places ends → ¬ (AreFew f x xs more) → ¬ (IsFormula (extended f x))
-above f x xs more places ends l many h =
-    let few = formula_is_few f x h in
+pub above : (L : Limits) (f x : Cnf) (xs more : List Literal) (places ends : List ℕ) → Lie f x xs more places ends → ¬ (AreFew L f x xs more) → ¬ (FitsIn L (extended f x))
+above L f x xs more places ends l many h =
+    let few = fits_is_few L f x h in
     let n = counts f x xs more places ends l in
     many (few.0, few.1, omega (arith, few.2, n.0, n.1))
 
--- lists that are few make a formula
-pub few_lie : (f x : Cnf) (xs more : List Literal) (places ends : List ℕ) → Lie f x xs more places ends → AreFew f x xs more → IsFormula f → AreWithin x.vars x.clauses → IsFormula (extended f x)
-few_lie f x xs more places ends l few h within =
+-- lists that are few fit into the limits
+pub few_lie : (L : Limits) (f x : Cnf) (xs more : List Literal) (places ends : List ℕ) → Lie f x xs more places ends → AreFew L f x xs more → FitsIn L (extended f x)
+few_lie L f x xs more places ends l few =
     let n = counts f x xs more places ends l in
-    few_is_formula f x h within few.0 few.1 (omega (arith, few.2, n.0, n.1))
+    few_fits L f x few.0 few.1 (omega (arith, few.2, n.0, n.1))
 
 -- the lists of the extended formula
-pub record IsExtended (f x : Cnf) (vars : ℕ) (all : List Literal) (ends : List ℕ) : Type 0 where
-  pub formula : IsFormula (extended f x)
+pub record IsExtended (L : Limits) (f x : Cnf) (vars : ℕ) (all : List Literal) (ends : List ℕ) : Type 0 where
+  pub fits : FitsIn L (extended f x)
+  pub limit : vars ≤ 99999999
   pub within : All (IsWithin vars) all
-  pub count : length ends ≤ 4000001
-  pub total : length all ≤ 50000000
+  pub count : length ends ≤ 100000000
+  pub total : length all ≤ 999999999
   pub is : record { vars = vars; clauses = parts all ends } ≡ extended f x
 
-pub is_extended : (f x : Cnf) (xs more : List Literal) (places ends : List ℕ) → Lie f x xs more places ends → AreFew f x xs more → IsFormula f → AreWithin x.vars x.clauses
-    → (vars : ℕ) (all : List Literal) (behind : List ℕ) → vars ≡ max f.vars x.vars → Fills all behind → parts all behind ≡ parts xs places ++ parts more ends → IsExtended f x vars all behind
-is_extended f x xs more places ends l few h within vars all behind most fills joined =
-    let formula : IsFormula (extended f x) = few_lie f x xs more places ends l few h within in
+pub is_extended : (L : Limits) (f x : Cnf) (xs more : List Literal) (places ends : List ℕ) → Lie f x xs more places ends → AreFew L f x xs more → AreNoMore L large → IsFormula f → AreWithin x.vars x.clauses
+    → (vars : ℕ) (all : List Literal) (behind : List ℕ) → vars ≡ max f.vars x.vars → Fills all behind → parts all behind ≡ parts xs places ++ parts more ends → IsExtended L f x vars all behind
+is_extended L f x xs more places ends l few le h within vars all behind most fills joined =
+    let fits : FitsIn L (extended f x) = few_lie L f x xs more places ends l few in
+    let formula : IsFormula (extended f x) = fits_is_formula L f x le h within fits in
     let clauses : parts all behind ≡ f.clauses ++ x.clauses = joined ∙ ap (λ (cs : List Clause). cs ++ parts more ends) l.clauses ∙ ap (λ (cs : List Clause). f.clauses ++ cs) l.more_clauses in
     let size = ap (λ (cs : List Clause). length cs) clauses in
     let total = ap literal_count clauses in
     record {
-      formula = formula;
+      fits = fits;
+      limit = omega (arith, formula.vars, most);
       within = all_filled (IsWithin vars) all behind fills (rw (most, clauses) formula.within);
       count = omega (arith, formula.clauses, size, length_parts all behind);
       total = omega (arith, formula.literals, total, fills_count all behind fills);

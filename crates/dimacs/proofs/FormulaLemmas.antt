@@ -32,7 +32,7 @@ count_le xs [] h = omega arith
 count_le xs (a ∷ places) h = omega (arith, parts_count xs a places h)
 
 -- a formula that lies in two lists is within the limits
-pub is_formula : (vars n : ℕ) (xs : List Literal) (places : List ℕ) → n ≡ length xs → vars ≤ 1000000 → ArePlaces places n → length places ≤ 4000001 → n ≤ 50000000 → All (IsWithin vars) xs → IsFormula (record { vars = vars; clauses = parts xs places })
+pub is_formula : (vars n : ℕ) (xs : List Literal) (places : List ℕ) → n ≡ length xs → vars ≤ 99999999 → ArePlaces places n → length places ≤ 100000000 → n ≤ 999999999 → All (IsWithin vars) xs → IsFormula (record { vars = vars; clauses = parts xs places })
 is_formula vars n xs places e v h count total w =
     let at : ArePlaces places (length xs) = rw e at h in
     record { vars = v; clauses = omega (arith, length_parts xs places); literals = omega (arith, count_le xs places at); within = parts_within (IsWithin vars) xs places w }

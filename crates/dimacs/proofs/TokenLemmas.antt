@@ -59,7 +59,7 @@ module _ (line : ℕ) (word : List ℕ) (b : BodyState) (r : Number) (found : op
       let above : b.vars < nat_abs z.0 = omega arith in
       token_is z.0 z.1 ∙ grind (arith, nat_tests)
 
-  pub token_many : length b.done < b.count → 0 < r.size → r.size ≤ b.vars → b.vars ≤ 1000000 → b.limit ≤ b.total → read_token line word b ≡ fault AboveLimit line
+  pub token_many : length b.done < b.count → 0 < r.size → r.size ≤ b.vars → b.vars ≤ 99999999 → b.limit ≤ b.total → read_token line word b ≡ fault AboveLimit line
   token_many h k v top m =
       let z = some_number (number word) r found in
       let size : r.size ≡ min 100000000 (nat_abs z.0) = ap (λ (x : Number). x.size) (sym z.2) ∙ capped_size z.0 in
@@ -67,7 +67,7 @@ module _ (line : ℕ) (word : List ℕ) (b : BodyState) (r : Number) (found : op
       let within : nat_abs z.0 ≤ b.vars = omega arith in
       token_is z.0 z.1 ∙ grind (arith, nat_tests)
 
-  pub token_push : (l : Literal) → length b.done < b.count → 0 < r.size → r.size ≤ b.vars → b.vars ≤ 1000000 → b.total < b.limit
+  pub token_push : (l : Literal) → length b.done < b.count → 0 < r.size → r.size ≤ b.vars → b.vars ≤ 99999999 → b.total < b.limit
       → l ≡ cond r.negative (Neg r.size) (Pos r.size) → read_token line word b ≡ Ok (record b { open_clause = b.open_clause ++ l ∷ []; total = b.total + 1 })
   token_push l h k v top m e =
       let z = some_number (number word) r found in

@@ -10,7 +10,7 @@ use Rattle.std.proofs.lemmas.List.Elements.{All-from_recursion}
 use Rattle.std.proofs.lemmas.List.Splits.{slice_split_at, slice_split_none}
 use Rattle.std.proofs.lemmas.Fmt.{decimal_by_steps, first_decimal, decimal_nonempty, decimal_digit}
 use Rattle.dimacs.specs.logic.Cnf.{Cnf, FitsIn, IsFormula}
-use Rattle.dimacs.specs.logic.Limits.{Limits, written}
+use Rattle.dimacs.specs.logic.Limits.{Limits}
 use Rattle.dimacs.specs.logic.Literal.{Clause, IsWithin, number_of}
 use Rattle.dimacs.specs.text.Numbers.{number, natural, digits_from}
 use Rattle.dimacs.proofs.WithinLemmas.{EachWithin, each_within}
@@ -112,7 +112,7 @@ words_last w h some =
     ∙ front_more w [] some
 
 -- the tokens of a clause's line
-pub clause_words : (vars : ℕ) (c : Clause) → vars ≤ 1000000 → AllByRecursion (IsWithin vars) c → words (clause_text c) ≡ map signed_decimal (ended c)
+pub clause_words : (vars : ℕ) (c : Clause) → vars ≤ 99999999 → AllByRecursion (IsWithin vars) c → words (clause_text c) ≡ map signed_decimal (ended c)
 unfolding IsInk
 clause_words vars [] v h = words_last (48 ∷ []) ((omega arith, omega arith), tt) (omega arith) ∙ ap (λ (x : List ℕ). x ∷ []) (sym (decimal_digit 0 (omega arith)))
 clause_words vars (l ∷ c) v h =
@@ -134,7 +134,7 @@ unfolding IsInk IsPlain
 ink_plain [] h = tt
 ink_plain (b ∷ bs) h = ((h.0.1, ne_eqb b 10 (λ same. omega (arith, h.0.0))), ink_plain bs h.1)
 
-pub clause_plain : (vars : ℕ) (c : Clause) → vars ≤ 1000000 → AllByRecursion (IsWithin vars) c → AllByRecursion IsPlain (clause_text c)
+pub clause_plain : (vars : ℕ) (c : Clause) → vars ≤ 99999999 → AllByRecursion (IsWithin vars) c → AllByRecursion IsPlain (clause_text c)
 unfolding IsPlain
 clause_plain vars [] v h = ((omega arith, refl), tt)
 clause_plain vars (l ∷ c) v h =
@@ -155,11 +155,11 @@ not_comment (b ∷ bs) h = ne_eqb b 99 (λ same. omega (arith, h.0.0))
 pub lines_line : (l rest : List ℕ) → AllByRecursion (λ b. eqb b 10 ≡ false) l → lines (l ++ 10 ∷ rest) ≡ l ∷ lines rest
 lines_line l rest h = slice_split_at (λ b. eqb b 10) l 10 rest (All-from_recursion (λ b. eqb b 10 ≡ false) l h) refl
 
-pub words_of_clause : (vars : ℕ) (c : Clause) → vars ≤ 1000000 → AllByRecursion (IsWithin vars) c → words_of (clause_text c) ≡ map signed_decimal (ended c)
+pub words_of_clause : (vars : ℕ) (c : Clause) → vars ≤ 99999999 → AllByRecursion (IsWithin vars) c → words_of (clause_text c) ≡ map signed_decimal (ended c)
 words_of_clause vars c v h = rw (not_comment (clause_text c) (clause_plain vars c v h)) (clause_words vars c v h)
 
 -- the tokens after the header
-clauses_words : (vars : ℕ) (cs : List Clause) → vars ≤ 1000000 → EachWithin vars cs → flat_map words_of (lines (flat_map clause_line cs)) ≡ map signed_decimal (flat_map ended cs)
+clauses_words : (vars : ℕ) (cs : List Clause) → vars ≤ 99999999 → EachWithin vars cs → flat_map words_of (lines (flat_map clause_line cs)) ≡ map signed_decimal (flat_map ended cs)
 unfolding words
 clauses_words vars [] v h = refl
 clauses_words vars (c ∷ cs) v h =
@@ -172,11 +172,11 @@ numbers_back : (zs : List ℤ) → AllByRecursion (λ z. nat_abs z < 2 ^ 63) zs 
 numbers_back [] h = refl
 numbers_back (z ∷ zs) h = rw (number_text z h.0, numbers_back zs h.1) refl
 
-pub clause_small : (vars : ℕ) (c : Clause) → vars ≤ 1000000 → AllByRecursion (IsWithin vars) c → AllByRecursion (λ z. nat_abs z < 2 ^ 63) (ended c)
+pub clause_small : (vars : ℕ) (c : Clause) → vars ≤ 99999999 → AllByRecursion (IsWithin vars) c → AllByRecursion (λ z. nat_abs z < 2 ^ 63) (ended c)
 clause_small vars [] v h = (omega arith, tt)
 clause_small vars (l ∷ c) v h = (omega (arith, number_size l, h.0.1), clause_small vars c v h.1)
 
-clauses_small : (vars : ℕ) (cs : List Clause) → vars ≤ 1000000 → EachWithin vars cs → AllByRecursion (λ z. nat_abs z < 2 ^ 63) (flat_map ended cs)
+clauses_small : (vars : ℕ) (cs : List Clause) → vars ≤ 99999999 → EachWithin vars cs → AllByRecursion (λ z. nat_abs z < 2 ^ 63) (flat_map ended cs)
 clauses_small vars [] v h = tt
 clauses_small vars (c ∷ cs) v h = all_append (λ z. nat_abs z < 2 ^ 63) (ended c) (flat_map ended cs) (clause_small vars c v h.0) (clauses_small vars cs v h.1)
 
@@ -212,10 +212,6 @@ header_line f v c =
 
 header_of : (f : Cnf) → f.vars < 2 ^ 63 → length f.clauses < 2 ^ 63 → words_of (header_text f) ≡ codes "p" ∷ codes "cnf" ∷ decimal f.vars ∷ decimal (length f.clauses) ∷ []
 header_of f v c = header_words f v c
-
--- a formula fits into the written limits, which are the large ones
-pub formula_fits : (f : Cnf) → IsFormula f → FitsIn written f
-formula_fits f is = record { vars = omega (arith, is.vars); clauses = omega (arith, is.clauses); literals = omega (arith, is.literals) }
 
 pub writing_spells : (L : Limits) (f : Cnf) → IsFormula f → FitsIn L f → SpellsWithin L (spelling f) f
 writing_spells L f is fits =

@@ -1,4 +1,4 @@
-//! The answer lines of the SAT competitions.
+//! The answer lines of the SAT competitions. After a refusal of memory, a private function may have appended a prefix of its text.
 
 ghost use Rattle.std.specs.Prelude.{◌≡◌, ◌<◌, ◌≤◌, ◌^◌, ◌∷◌, ◌++◌, [], List, ℕ, length, codes, OnOk, OnErr, IfOk, if◌then◌else◌};
 ghost use Rattle.std.specs.Fmt.{signed_decimal};
@@ -11,21 +11,21 @@ use crate::writer::put;
 use itoa::Buffer;
 use std::alloc::AllocError;
 
-/// What is known of a formula.
+/// What is known of whether a formula is satisfiable.
 #[derive(Clone, Copy)]
 pub enum Answer<'a> {
-    /// This assignment satisfies it.
+    /// This assignment satisfies the formula.
     Satisfiable(&'a Assignment),
-    /// No assignment satisfies it.
+    /// No assignment satisfies the formula.
     Unsatisfiable,
-    /// Neither is known.
+    /// The formula is not decided.
     Unknown,
 }
 
-// Maximal length of a `v` line in bytes, without its LF.
+/// The greatest length of a `v` line in bytes, without its LF.
 const WIDTH: usize = 78;
 
-// Appends an item to the `v` line, which has `used` bytes, or to a new `v` line if it does not fit. Returns the line's new length.
+/// Appends an item to the `v` line, which has `used` bytes, or to a new `v` line if it does not fit. Answers the length of the last line.
 fn put_item(out: &mut Vec<u8>, used: usize, item: &[u8]) -> Result<usize, AllocError>
     requires used { used ≤ 78 }
     requires item { length item.now ≤ 40 }
@@ -45,6 +45,8 @@ fn put_item(out: &mut Vec<u8>, used: usize, item: &[u8]) -> Result<usize, AllocE
     }
 }
 
+/// Appends a variable with its truth value to the `v` line, which has `used` bytes, or to a new
+/// line if it does not fit. Answers the length of the last line.
 fn put_value(
     out: &mut Vec<u8>,
     used: usize,
@@ -63,6 +65,7 @@ fn put_value(
     put_item(out, used, text.as_bytes())
 }
 
+/// Appends the `v` lines of an assignment.
 fn put_witness(out: &mut Vec<u8>, values: &[bool]) -> Result<(), AllocError>
     ensures ok { OnOk result (out.new.items ≡ out.old.items ++ witness_lines values.now) }
     ensures begins { Begins out.old.items out.new.items }
@@ -76,6 +79,7 @@ fn put_witness(out: &mut Vec<u8>, values: &[bool]) -> Result<(), AllocError>
     put(out, b"\n")
 }
 
+/// Appends `s SATISFIABLE`, and the `v` lines if `witness` is true.
 fn put_satisfiable(out: &mut Vec<u8>, values: &[bool], witness: bool) -> Result<(), AllocError>
     ensures ok { OnOk result (out.new.items ≡ out.old.items ++ satisfied_lines values.now witness) }
     ensures begins { Begins out.old.items out.new.items }
@@ -87,6 +91,7 @@ fn put_satisfiable(out: &mut Vec<u8>, values: &[bool], witness: bool) -> Result<
     Ok(())
 }
 
+/// Appends the answer line, and for a satisfying assignment its `v` lines if `witness` is true.
 fn put_answer(out: &mut Vec<u8>, answer: Answer, witness: bool) -> Result<(), AllocError>
     ensures ok { OnOk result (out.new.items ≡ out.old.items ++ Lines answer.entry witness) }
     ensures begins { Begins out.old.items out.new.items }
@@ -98,9 +103,8 @@ fn put_answer(out: &mut Vec<u8>, answer: Answer, witness: bool) -> Result<(), Al
     }
 }
 
-/// Appends the answer line, and for a satisfying assignment with `witness` its `v` lines of at most 78 bytes.
-///
-/// If memory is refused, `out` is unchanged.
+/// Appends the answer line, and for a satisfying assignment its `v` lines, of at most 78 bytes, if `witness` is true. If memory is refused,
+/// `out` is as before.
 pub fn answer_lines(answer: Answer, witness: bool, out: &mut Vec<u8>) -> Result<(), AllocError>
     ensures ok { OnOk result (out.new.items ≡ out.old.items ++ Lines answer.entry witness) }
     ensures err { OnErr result (out.new.items ≡ out.old.items) }

@@ -11,6 +11,7 @@ use std::marker::Model;
 /// A truth value for each variable, that of variable 1 first.
 #[derive(Drop)]
 pub struct Assignment {
+    /// The values, of which the first is that of variable 1.
     values: Vec<bool>,
 }
 
@@ -21,28 +22,28 @@ impl Model for Assignment {
 }
 
 impl Assignment {
-    /// The assignment of these values.
+    /// The assignment of these values, of which the first is that of variable 1.
     pub fn new(values: Vec<bool>) -> Assignment
         ensures { result ≡ values.items }
     {
         Assignment { values }
     }
 
-    /// The number of variables that have a value.
+    /// Answers the number of variables that have a value.
     pub fn len(&self) -> usize
         ensures { result ≡ length self.now }
     {
         self.values.len()
     }
 
-    /// The values, that of variable 1 first.
+    /// Lends the values, of which the first is that of variable 1.
     pub fn values(&self) -> &[bool]
         ensures { result.now ≡ self.now }
     {
         &self.values
     }
 
-    /// Whether a literal is true.
+    /// Answers whether a literal is true. Its variable must have a value.
     pub fn holds(&self, literal: Lit) -> bool
         requires { IsWithin (length self.now) literal }
         ensures { result ≡ literal_true (assignment_of self.now) literal }
@@ -52,6 +53,7 @@ impl Assignment {
     }
 }
 
+/// Answers whether a clause has a true literal.
 fn clause_holds(assignment: &Assignment, clause: &[Lit]) -> bool
     requires { All (IsWithin (length assignment.now)) clause.now }
     ensures { IsTrue result ↔ IsTrueIn (assignment_of assignment.now) clause.now }
@@ -64,7 +66,8 @@ fn clause_holds(assignment: &Assignment, clause: &[Lit]) -> bool
     false
 }
 
-/// Whether each clause has a true literal. The assignment has one value for each variable. Takes no memory.
+/// Answers whether the assignment satisfies the formula: each clause has a true literal. The assignment has one value for each variable. It
+/// allocates nothing.
 pub fn satisfies(assignment: &Assignment, formula: &Formula) -> bool
     requires { length assignment.now ≡ formula.now.vars }
     ensures { IsTrue result ↔ Sat (assignment_of assignment.now) formula.now }

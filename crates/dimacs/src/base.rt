@@ -1,4 +1,4 @@
-//! The clauses that a proof starts from: a formula's, and those that were added after them.
+//! The base of a proof: the clauses that it starts from, which are a formula's and those that were added after them.
 
 ghost use Rattle.std.specs.Prelude.{◌≡◌, ◌+◌, ◌<◌, ◌≤◌, [], ◌∷◌, ◌++◌, length, slice_index_or, All, IfOk, OnOk, OnErr, vec_len};
 ghost use Rattle.dimacs.specs.logic.Cnf.{IsBase, literal_count};
@@ -13,10 +13,13 @@ use std::marker::Model;
 
 /// A formula's clauses, and those that were added after them: unit clauses of pure literals, and definitions of new variables.
 ///
-/// It has at most 2,000,000 variables, 5,000,192 clauses and 51,000,448 literals.
+/// It has at most 199,999,999 variables, 200,000,190 clauses and 1,100,000,446 literals.
 pub struct Base {
+    /// The number of variables.
     vars: u32,
+    /// The literals, clause after clause.
     literals: Vec<Lit>,
+    /// The offsets in `literals` at which the clauses begin, and the end of the last one.
     places: Vec<u32>,
 }
 
@@ -42,6 +45,8 @@ impl Model for Base {
 }
 
 impl Base {
+    /// Makes a base of its number of variables, its literals, clause after clause, and the offsets at which the clauses begin, with the end
+    /// of the last one.
     pub(crate) fn from_parts(vars: u32, literals: Vec<Lit>, places: Vec<u32>) -> Base
         requires places { Fills literals.items places.items }
         requires valid { IsBase (record { vars = vars; clauses = parts literals.items places.items }) }
@@ -54,7 +59,8 @@ impl Base {
         }
     }
 
-    // Takes the base apart: its number of variables, its literals, and the offsets of its clauses.
+    /// Takes the base apart: answers its number of variables, its literals, clause after clause, and the offsets at which the clauses
+    /// begin, with the end of the last one.
     pub(crate) fn into_parts(self) -> (u32, Vec<Lit>, Vec<u32>)
         ensures value { self ≡ record { vars = result.0; clauses = parts result.1.items result.2.items } }
         ensures fills { Fills result.1.items result.2.items }
@@ -67,7 +73,7 @@ impl Base {
         (vars, literals, places)
     }
 
-    // The literals, clause after clause, and the offsets at which the clauses begin, with the end of the last one.
+    /// Lends the literals, clause after clause, and the offsets at which the clauses begin, with the end of the last one.
     pub(crate) fn parts(&self) -> (&[Lit], &[u32])
         ensures clauses { parts result.0.now result.1.now ≡ self.now.clauses }
         ensures fills { Fills result.0.now result.1.now }
@@ -75,14 +81,14 @@ impl Base {
         (&self.literals, &self.places)
     }
 
-    /// A copy of the formula's clauses, with none added.
+    /// Makes a base of a copy of the formula's clauses, with none added.
     pub fn of(alloc: Global, formula: &Formula) -> Result<Base, AllocError>
         ensures { IfOk result (λ b. b ≡ formula.now) }
     {
         formula.as_base().copy(alloc)
     }
 
-    /// A copy.
+    /// Makes a copy of the base.
     pub fn copy(&self, alloc: Global) -> Result<Base, AllocError>
         ensures { IfOk result (λ b. b ≡ self.now) }
     {
@@ -93,16 +99,16 @@ impl Base {
         })
     }
 
-    /// The number of variables: the greatest variable that a clause may name.
+    /// Answers the number of variables, at most 199,999,999: the greatest variable that a clause may name.
     pub fn vars(&self) -> u32
         ensures value { result ≡ self.now.vars }
-        ensures limit { result ≤ 2000000 }
+        ensures limit { result ≤ 199999999 }
         ensures valid { IsBase self.now }
     {
         self.vars
     }
 
-    /// The number of clauses.
+    /// Answers the number of clauses.
     #[tactic(auto, using(crate::proofs::FlatLemmas::length_parts))]
     pub fn len(&self) -> usize
         ensures { result ≡ length self.now.clauses }
@@ -110,7 +116,7 @@ impl Base {
         self.places.len() - 1
     }
 
-    /// The clause at this index, from 0.
+    /// Lends the clause of index `i`, from 0.
     pub fn clause(&self, i: usize) -> &[Lit]
         requires { i < length self.now.clauses }
         ensures clause { result.now ≡ slice_index_or self.now.clauses i [] }
@@ -120,7 +126,7 @@ impl Base {
         flat::clause_at(&self.literals, &self.places, i)
     }
 
-    /// A copy of the literals, clause after clause, and of the offsets at which the clauses begin, with the end of the last one.
+    /// Copies the literals, clause after clause, and the offsets at which the clauses begin, with the end of the last one.
     pub fn copy_parts(&self, alloc: Global) -> Result<(Vec<Lit>, Vec<u32>), AllocError>
         ensures clauses { IfOk result (λ p. parts p.0.items p.1.items ≡ self.now.clauses) }
         ensures places { IfOk result (λ p. ArePlaces p.1.items (vec_len p.0)) }
@@ -131,10 +137,10 @@ impl Base {
         ))
     }
 
-    /// Appends a clause. If memory is refused, the base is unchanged.
+    /// Appends a clause. If memory is refused, the base is as before.
     pub fn push_clause(&mut self, clause: &[Lit]) -> Result<(), AllocError>
-        requires room { length self.old.clauses < 5000192 }
-        requires literals { literal_count self.old.clauses + length clause.now ≤ 51000448 }
+        requires room { length self.old.clauses < 200000190 }
+        requires literals { literal_count self.old.clauses + length clause.now ≤ 1100000446 }
         requires within { All (IsWithin self.old.vars) clause.now }
         ensures ok { OnOk result (self.new ≡ record self.old { clauses = self.old.clauses ++ clause.now ∷ [] }) }
         ensures err { OnErr result (self.new ≡ self.old) }
@@ -143,9 +149,9 @@ impl Base {
         Ok(())
     }
 
-    /// Adds that many new variables after the existing ones.
+    /// Adds `more` new variables after the existing ones.
     pub fn add_vars(&mut self, more: u32)
-        requires { self.old.vars + more ≤ 2000000 }
+        requires { self.old.vars + more ≤ 199999999 }
         ensures { self.new ≡ record self.old { vars = self.old.vars + more } }
     {
         self.vars += more;

@@ -21,12 +21,16 @@ use crate::words::is_comment;
 use std::alloc::{AllocError, Global};
 use std::marker::Model;
 
-/// The header's numbers, the limit on literals, and the clauses read so far.
+/// The state of the DIMACS parser after the header.
 #[derive(Drop)]
 pub(crate) struct Body {
+    /// The header's number of variables.
     vars: u32,
+    /// The header's number of clauses.
     count: u32,
+    /// The limit on the number of literals.
     limit: u32,
+    /// The clauses read so far, and the open one.
     clauses: Builder,
 }
 
@@ -40,15 +44,15 @@ impl Model for Body {
 
     ghost view = { λ b. record { vars = b.vars; count = b.count; limit = b.limit; done = b.clauses.done; open_clause = b.clauses.open_clause; total = b.clauses.total } };
 
-    ghost invariant = { λ b. (b.vars ≤ 1000000) × (b.count ≤ 4000000) × (b.limit ≤ 50000000) × (length b.clauses.done ≤ b.count) × AreWithin b.vars b.clauses.done × All (IsWithin b.vars) b.clauses.open_clause };
+    ghost invariant = { λ b. (b.vars ≤ 99999999) × (b.count ≤ 99999999) × (b.limit ≤ 999999999) × (length b.clauses.done ≤ b.count) × AreWithin b.vars b.clauses.done × All (IsWithin b.vars) b.clauses.open_clause };
 }
 
 impl Body {
-    /// No token of the body has been read.
+    /// A state after the header with these numbers, before the first token of the body.
     fn new(alloc: Global, vars: u32, count: u32, limit: u32) -> Result<Body, AllocError>
-        requires vars { vars ≤ 1000000 }
-        requires count { count ≤ 4000000 }
-        requires limit { limit ≤ 50000000 }
+        requires vars { vars ≤ 99999999 }
+        requires count { count ≤ 99999999 }
+        requires limit { limit ≤ 999999999 }
         ensures { IfOk result (λ b. b ≡ record { vars = vars; count = count; limit = limit; done = []; open_clause = []; total = 0 }) }
     {
         Ok(Body {
@@ -59,6 +63,7 @@ impl Body {
         })
     }
 
+    /// Appends a literal to the open clause.
     fn push(&mut self, literal: Lit) -> Result<(), AllocError>
         requires room { self.old.total < self.old.limit }
         requires within { IsWithin self.old.vars literal }
@@ -68,6 +73,7 @@ impl Body {
         Ok(())
     }
 
+    /// Ends the open clause.
     fn end_clause(&mut self) -> Result<(), AllocError>
         requires { length self.old.done < self.old.count }
         ensures { OnOk result (self.new ≡ record self.old { done = self.old.done ++ self.old.open_clause ∷ []; open_clause = [] }) }
@@ -76,13 +82,15 @@ impl Body {
         Ok(())
     }
 
+    /// Answers whether as many clauses have ended as the header announces.
     fn is_full(&self) -> bool
         ensures { result ≡ nat_le self.now.count (length self.now.done) }
     {
         self.clauses.len() >= self.count as usize
     }
 
-    /// Reads a token: `found` is its number, or `None` if it is no number.
+    /// Reads a token, of which `found` is the number, or `None` if it is no number: a literal, or the 0 that ends a clause. The fault is
+    /// the first of `BadToken`, `TooManyClauses`, `VariableAboveHeader` and `AboveLimit` that applies.
     fn read_token(&mut self, line: u64, found: Option<Number>) -> Result<(), DimacsFault>
         ensures { (word : List ℕ) → found ≡ option_map capped (number word) → Gives no_memory self.new result (read_token line word self.old) }
     {
@@ -106,7 +114,7 @@ impl Body {
         Ok(())
     }
 
-    /// Reads the tokens of a line. Not inlined, so that the loop over digits has the registers for itself.
+    /// Reads the tokens of a line. It is not inlined, so that the loop over digits has the registers for itself.
     #[inline(never)]
     fn read_words(&mut self, line: u64, text: &[u8]) -> Result<(), DimacsFault>
         ensures { Gives no_memory self.new result (read_words format line (words text.now) self.old) }
@@ -131,15 +139,18 @@ impl Rows for Body {
 
     ghost no_memory = { reading.no_memory };
 
+    /// The fault `NoHeader` in the text's last line.
     fn no_header(lines: u64) -> DimacsFault {
         DimacsFault::at(Kind::NoHeader, lines)
     }
 
+    /// Reads the header `p cnf VARIABLES CLAUSES`.
     fn begin(alloc: Global, limits: Limits, line: u64, header: &[u8]) -> Result<Body, DimacsFault> {
         let (vars, count) = read_header(limits, line, header)?;
         Ok(Body::new(alloc, vars, count, limits.literals())?)
     }
 
+    /// Reads the tokens of a line after the header; a comment has none.
     #[tactic(auto, unfolding(crate::specs::text::Rows::read_words))]
     fn read_line(&mut self, line: u64, text: &[u8]) -> Result<(), DimacsFault> {
         if is_comment(text) {
@@ -148,6 +159,7 @@ impl Rows for Body {
         self.read_words(line, text)
     }
 
+    /// Makes the formula, if the last clause has ended and as many have ended as the header announces.
     fn finish(self, lines: u64) -> Result<Formula, DimacsFault> {
         let Body {
             vars,

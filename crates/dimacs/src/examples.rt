@@ -9,7 +9,7 @@ ghost use Rattle.dimacs.specs.logic.Examples.{one_or_two, one_or_not_two, small,
 ghost use Rattle.dimacs.specs.logic.Literal.{Pos, Neg};
 ghost use Rattle.dimacs.specs.logic.Propagation.{negations, with_literal, IsFalse, IsUnit, Rup};
 
-/// Pure literals, and the base of a formula: the unit clause `1` is added, and none for variable 2.
+/// Examples of pure literals and of the base of a formula: the unit clause `1` is added, and none for variable 2.
 pub fn worked_bases()
     ensures pure { is_pure small (Pos 1) ≡ true }
     ensures both_signs { (is_pure small (Pos 2) ≡ false) × (is_pure small (Neg 2) ≡ false) }
@@ -17,7 +17,7 @@ pub fn worked_bases()
     ensures base { (base_of small).clauses ≡ small.clauses ++ (Pos 1 ∷ []) ∷ [] }
 {}
 
-/// Clauses by number, unit and false clauses, and a lemma that has RUP by its hints.
+/// Examples of clauses by number, of unit and false clauses, and of a lemma that has RUP by its hints.
 pub fn worked_propagation()
     ensures first { get (map_of small) 1 ≡ Some one_or_two }
     ensures last { get (map_of small) 2 ≡ Some one_or_not_two }
@@ -29,7 +29,7 @@ pub fn worked_propagation()
     ensures lemma { Rup (live_in (map_of small)) (Pos 1 ∷ []) (1 ∷ 2 ∷ []) }
 {}
 
-/// The `v` lines: no variable, a false one, and a line of exactly 78 bytes.
+/// Examples of `v` lines: no variable, a false one, and a line of exactly 78 bytes.
 pub fn worked_answers()
     ensures empty { witness_lines [] ≡ codes "v 0\n" }
     ensures signs { witness_lines (true ∷ false ∷ []) ≡ codes "v 1 -2 0\n" }

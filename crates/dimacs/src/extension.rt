@@ -1,4 +1,4 @@
-//! Clauses that are added to a formula.
+//! Extensions: clauses that are to be added to a formula.
 
 ghost use Rattle.std.specs.Prelude.{◌≡◌, ◌<◌, ◌≤◌, [], length, slice_index_or, All, IfOk, vec_len};
 ghost use Rattle.dimacs.specs.logic.Cnf.{AreWithin};
@@ -10,12 +10,15 @@ use crate::literal::Lit;
 use std::alloc::{AllocError, Global};
 use std::marker::Model;
 
-/// Clauses to be added to a formula, and the least number of variables that it has then. There are at most 4,000,000 clauses,
-/// with 50,000,000 literals, and maybe none. The number of variables may exceed a formula's limit.
+/// Clauses to be added to a formula, and the least number of variables that the formula has afterwards. There are at most 99,999,999
+/// clauses, with 999,999,999 literals, and maybe none. The number of variables may exceed a formula's limit.
 #[derive(Drop)]
 pub struct Extension {
+    /// The least number of variables of the extended formula.
     vars: u32,
+    /// The literals, clause after clause.
     literals: Vec<Lit>,
+    /// The offsets in `literals` at which the clauses begin, and the end of the last one.
     places: Vec<u32>,
 }
 
@@ -29,15 +32,17 @@ impl Model for Extension {
 
     ghost view = { λ x. record { vars = x.vars; clauses = parts x.literals.items x.places.items } };
 
-    ghost invariant = { λ x. Fills x.literals.items x.places.items × All (IsWithin x.vars) x.literals.items × (vec_len x.places ≤ 4000001) × (vec_len x.literals ≤ 50000000) };
+    ghost invariant = { λ x. Fills x.literals.items x.places.items × All (IsWithin x.vars) x.literals.items × (vec_len x.places ≤ 100000000) × (vec_len x.literals ≤ 999999999) };
 }
 
 impl Extension {
+    /// Makes an extension of its number of variables, its literals, clause after clause, and the offsets at which the clauses begin, with
+    /// the end of the last one.
     pub(crate) fn from_parts(vars: u32, literals: Vec<Lit>, places: Vec<u32>) -> Extension
         requires places { Fills literals.items places.items }
         requires within { All (IsWithin vars) literals.items }
-        requires count { vec_len places ≤ 4000001 }
-        requires total { vec_len literals ≤ 50000000 }
+        requires count { vec_len places ≤ 100000000 }
+        requires total { vec_len literals ≤ 999999999 }
         ensures { result ≡ record { vars = vars; clauses = parts literals.items places.items } }
     {
         Extension {
@@ -47,7 +52,7 @@ impl Extension {
         }
     }
 
-    /// The least number of variables that the formula has then: the greatest variable that a clause may name.
+    /// Answers the least number of variables that the extended formula has: the greatest variable that a clause may name.
     pub fn vars(&self) -> u32
         ensures value { result ≡ self.now.vars }
         ensures within { AreWithin self.now.vars self.now.clauses }
@@ -55,16 +60,16 @@ impl Extension {
         self.vars
     }
 
-    /// The number of clauses, at most 4,000,000.
+    /// Answers the number of clauses, at most 99,999,999.
     #[tactic(auto, using(crate::proofs::FlatLemmas::length_parts))]
     pub fn len(&self) -> usize
         ensures value { result ≡ length self.now.clauses }
-        ensures limit { result ≤ 4000000 }
+        ensures limit { result ≤ 99999999 }
     {
         self.places.len() - 1
     }
 
-    /// The clause at this index, from 0.
+    /// Lends the clause of index `i`, from 0.
     pub fn clause(&self, i: usize) -> &[Lit]
         requires { i < length self.now.clauses }
         ensures clause { result.now ≡ slice_index_or self.now.clauses i [] }
@@ -73,7 +78,7 @@ impl Extension {
         flat::clause_at(&self.literals, &self.places, i)
     }
 
-    // The literals, clause after clause, and the offsets at which the clauses begin, with the end of the last one.
+    /// Lends the literals, clause after clause, and the offsets at which the clauses begin, with the end of the last one.
     pub(crate) fn parts(&self) -> (&[Lit], &[u32])
         ensures clauses { parts result.0.now result.1.now ≡ self.now.clauses }
         ensures fills { Fills result.0.now result.1.now }
@@ -81,7 +86,7 @@ impl Extension {
         (&self.literals, &self.places)
     }
 
-    /// A copy.
+    /// Makes a copy of the extension.
     pub fn copy(&self, alloc: Global) -> Result<Extension, AllocError>
         ensures { IfOk result (λ x. x ≡ self.now) }
     {

@@ -1,4 +1,4 @@
-//! The faults of DIMACS texts.
+//! The faults of DIMACS texts, and their numbers.
 
 ghost use Rattle.std.specs.Prelude.{◌≡◌};
 ghost use Rattle.dimacs.specs.text.Faults.{number_of_kind};
@@ -7,8 +7,8 @@ ghost use Rattle.dimacs.specs.text.Parser.{no_memory};
 use std::alloc::{AllocError, AllocFailed};
 use thiserror::Error;
 
-/// What is wrong. The first faulty token decides. If it has several faults, the first of these decides: in the header, from left
-/// to right; after the header, `BadToken`, `TooManyClauses`, `VariableAboveHeader`, `AboveLimit`.
+/// What is wrong with a text. The first faulty token decides. If it has several faults, the first of these decides: in the header, from
+/// left to right; after the header, `BadToken`, `TooManyClauses`, `VariableAboveHeader`, `AboveLimit`.
 #[derive(Clone, Copy, Debug, PartialEq, Eq, Error)]
 pub enum Kind {
     /// There is no token, or the first one is not `p`.
@@ -32,7 +32,7 @@ pub enum Kind {
     /// A number follows the last of the clauses that the header announces.
     #[error("a clause stands behind the last")]
     TooManyClauses,
-    /// More than 1,000,000 variables, 4,000,000 clauses or 50,000,000 literals.
+    /// More variables, clauses or literals than the limits allow.
     #[error("the formula is above a limit")]
     AboveLimit,
     /// Memory was refused.
@@ -41,7 +41,7 @@ pub enum Kind {
 }
 
 impl Kind {
-    /// The fault number that is printed, from 1 to 9.
+    /// Answers the fault number that is printed, from 1 to 9.
     pub fn number(self) -> u8
         ensures { result ≡ number_of_kind self }
     {
@@ -64,18 +64,21 @@ impl Kind {
 #[derive(Clone, Copy, Debug, PartialEq, Eq, Error)]
 #[error("line {line}: {kind}")]
 pub struct DimacsFault {
+    /// What is wrong.
     pub kind: Kind,
+    /// The line, from 1; 0 for `NoMemory`.
     pub line: u64,
 }
 
 impl DimacsFault {
+    /// A fault of this kind in this line.
     pub(crate) fn at(kind: Kind, line: u64) -> DimacsFault
         ensures { result ≡ record { kind = kind; line = line } }
     {
         DimacsFault { kind, line }
     }
 
-    /// The number of its kind.
+    /// Answers the number of the fault's kind, from 1 to 9.
     pub fn number(self) -> u8
         ensures { result ≡ number_of_kind self.kind }
     {

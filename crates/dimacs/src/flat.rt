@@ -1,4 +1,4 @@
-//! Clauses in one vector of literals, each between one offset and the next.
+//! Clauses in one vector of literals: clause i (from 0) lies from offset i to before offset i + 1 of a list of offsets.
 
 ghost use Rattle.std.specs.Prelude.{◌≡◌, ℕ, ◌+◌, ◌<◌, ◌^◌, [], ◌∷◌, ◌++◌, length, slice_index_or, vec_len, All, IfOk, OnOk, OnErr};
 ghost use Rattle.dimacs.specs.logic.Literal.{IsWithin};
@@ -7,7 +7,7 @@ ghost use Rattle.dimacs.specs.layout.Flat.{parts, ArePlaces, Fills};
 use crate::literal::Lit;
 use std::alloc::{AllocError, Global};
 
-/// The clause at this index, from 0.
+/// Lends the clause of index `i`, from 0.
 #[tactic(auto, using(crate::proofs::FlatLemmas::flat))]
 pub(crate) fn clause_at<'a>(literals: &'a [Lit], places: &[u32], i: usize) -> &'a [Lit]
     requires places { ArePlaces places.now (length literals.now) }
@@ -18,7 +18,7 @@ pub(crate) fn clause_at<'a>(literals: &'a [Lit], places: &[u32], i: usize) -> &'
     &literals[places[i] as usize..places[i + 1] as usize]
 }
 
-/// Appends a clause. If memory is refused, the clauses are unchanged.
+/// Appends a clause. If memory is refused, the clauses are as before.
 #[tactic(auto, using(crate::proofs::FlatPush::pushes))]
 pub(crate) fn push_clause(
     literals: &mut Vec<Lit>,
@@ -37,7 +37,7 @@ pub(crate) fn push_clause(
     literals.extend_from_slice(clause)
 }
 
-/// Appends the clauses of other lists. If memory is refused, some of them may have been appended.
+/// Appends the clauses of another pair of lists, `more` and `ends`. If memory is refused, some of them may have been appended.
 pub(crate) fn push_clauses(
     literals: &mut Vec<Lit>,
     places: &mut Vec<u32>,
@@ -56,7 +56,7 @@ pub(crate) fn push_clauses(
     Ok(())
 }
 
-/// The clauses of one pair of lists, followed by those of another, in new lists.
+/// Copies into new lists the clauses of one pair of lists, followed by those of another pair, `more` and `ends`.
 pub(crate) fn joined(
     alloc: Global,
     literals: &[Lit],

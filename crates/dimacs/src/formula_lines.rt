@@ -1,4 +1,4 @@
-//! A parser of DIMACS texts that takes one line at a time.
+//! The parser of a DIMACS text that takes one line at a time.
 
 ghost use Rattle.std.specs.Prelude.{◌≡◌, ℕ, ◌+◌, [], ◌∷◌, None, MatchBool};
 ghost use Rattle.dimacs.specs.inner.Pieces.{TakesLine, RefusesLine};
@@ -14,11 +14,15 @@ use crate::words::is_blank;
 use std::alloc::{AllocError, Global};
 use std::marker::Model;
 
-/// The parser's state after the first lines of a text: the limits, the number of lines, and the body once the header was read.
+/// The parser's state after the first lines of a text.
 pub(crate) struct FormulaLines {
+    /// The allocator for the formula.
     alloc: Global,
+    /// The limits of the formula.
     limits: Limits,
+    /// The number of lines that were read.
     count: u64,
+    /// The state after the header; `None` before it was read.
     body: Option<Body>,
 }
 
@@ -41,7 +45,7 @@ impl Model for FormulaLines {
     ghost view = { λ l. record { limits = l.limits; count = l.count; body = l.body } };
 }
 
-/// Reads the line of this number, before, at or after the header. Returns whether it was taken; if not, sets `fault`.
+/// Reads the line of this number (from 1), before, at or after the header. Answers whether it was taken; if not, sets `fault`.
 #[inline(always)]
 fn read_line(
     alloc: Global,
@@ -82,7 +86,7 @@ fn read_line(
 }
 
 impl FormulaLines {
-    /// No line has been read.
+    /// A parser that has read no line.
     pub(crate) fn new(alloc: Global, limits: Limits) -> FormulaLines
         ensures { result ≡ record { limits = limits; count = 0; body = None } }
     {
@@ -94,11 +98,11 @@ impl FormulaLines {
         }
     }
 
-    /// Reads the next line. Returns whether it was taken; if not, sets `fault`, and the state is of no further use. A line whose
-    /// number exceeds 64 bits is refused as `NoMemory`.
+    /// Reads the next line. Answers whether it was taken; if not, sets `fault`, and the state is of no further use. A line whose number
+    /// exceeds 64 bits is refused as `NoMemory`.
     ///
-    /// The fault is an out-parameter, and the calls are inlined: a `Result` of three words, handed up through two calls a line,
-    /// took a sixth of the time for a formula of short lines.
+    /// The fault is an out-parameter, and the calls are inlined: a `Result` of three words, handed up through two calls a line, took a
+    /// sixth of the time for a formula of short lines.
     #[inline(always)]
     pub(crate) fn take_line(&mut self, line: &[u8], fault: &mut DimacsFault) -> bool
         ensures { MatchBool result (TakesLine self.old line.now self.new) (RefusesLine self.old line.now fault.new) }
@@ -120,7 +124,7 @@ impl FormulaLines {
         )
     }
 
-    /// The formula, if the text ends here.
+    /// Answers the formula if the text ends after the lines that were read, or the fault.
     fn end(self) -> Result<Formula, DimacsFault>
         ensures { GivesFormula result (read_on self []) }
     {
@@ -136,7 +140,7 @@ impl FormulaLines {
         }
     }
 
-    /// The formula, if this is the text's last line.
+    /// Answers the formula if this is the text's last line, which has no LF, or the fault.
     pub(crate) fn finish(self, last: &[u8]) -> Result<Formula, DimacsFault>
         ensures { GivesFormula result (read_on self (last.now ∷ [])) }
     {

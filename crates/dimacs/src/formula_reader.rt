@@ -1,4 +1,4 @@
-//! An incremental parser of DIMACS texts, which come in pieces.
+//! The reader of a formula from a DIMACS text that comes in pieces.
 
 ghost use Rattle.std.specs.Prelude.{◌≡◌, ℕ, List, [], ◌++◌, true, MatchBool, MatchResult};
 ghost use Rattle.dimacs.specs.inner.Pieces.{IsOpen, LeadsTo, RefusesText, TakesLine, RefusesLine};
@@ -14,8 +14,8 @@ use crate::words::cut_line;
 use std::alloc::{AllocError, Global};
 use std::marker::Model;
 
-/// Reads the line that was begun and ends with these bytes. Returns whether it was taken; if not, sets `fault`. A line that lies in
-/// one piece is not copied.
+/// Reads the line that begins with the bytes of `begun` and ends with these bytes. Answers whether it was taken; if not, sets `fault`. A
+/// line that lies in one piece is not copied.
 #[inline(always)]
 fn end_line(
     lines: &mut FormulaLines,
@@ -42,7 +42,7 @@ fn end_line(
     taken
 }
 
-/// Reads the lines that end in this piece, and buffers the one that does not.
+/// Reads the lines that end in this piece, and stores the last one, which does not, in `begun`.
 fn take_piece(
     lines: &mut FormulaLines,
     begun: &mut Vec<u8>,
@@ -67,11 +67,14 @@ fn take_piece(
     }
 }
 
-/// Reads a formula from its text in pieces. It buffers no text except the unfinished line, so that reading a formula takes no more
-/// memory than the formula.
+/// Reads a formula from its text in pieces. It stores no text except the incomplete line, so that reading a formula takes no more memory
+/// than the formula.
 pub struct FormulaReader {
+    /// The parser's state after the complete lines.
     lines: FormulaLines,
+    /// The bytes of the incomplete line, which have no LF.
     begun: Vec<u8>,
+    /// The first fault, once it was met; also a refusal of memory.
     fault: Option<DimacsFault>,
 }
 
@@ -97,14 +100,14 @@ impl Model for FormulaReader {
 }
 
 impl FormulaReader {
-    /// No byte has been read of a formula within the written limits.
+    /// A reader, which has read no byte, of a formula within the written limits.
     pub fn new(alloc: Global) -> FormulaReader
         ensures { HasRead result [] }
     {
         FormulaReader::within(alloc, Limits::written())
     }
 
-    /// No byte has been read of a formula within these limits.
+    /// A reader, which has read no byte, of a formula within these limits.
     pub fn within(alloc: Global, limits: Limits) -> FormulaReader
         ensures { HasReadWithin limits result [] }
     {
@@ -128,7 +131,7 @@ impl FormulaReader {
         }
     }
 
-    /// Whether there was a fault, or memory was refused. Then no further byte changes what `finish` returns, so the caller may stop
+    /// Answers whether there was a fault, or memory was refused. Then no further byte changes what `finish` answers, so the caller may stop
     /// feeding.
     pub fn is_settled(&self) -> bool
         ensures failed { result ≡ has_failed self.now }
@@ -137,7 +140,7 @@ impl FormulaReader {
         self.fault.is_some()
     }
 
-    /// The formula of the pieces, or the first fault of their text.
+    /// Answers the formula of the pieces, or the first fault of their text.
     pub fn finish(self) -> Result<Formula, DimacsFault>
         ensures { (L : Limits) (bytes : List ℕ) → HasReadWithin L self bytes → GivesFormula result (parse_within L bytes) }
     {

@@ -6,7 +6,7 @@ ghost use Rattle.dimacs.specs.logic.Cnf.{greatest_in, greatest_of};
 use crate::formula::Formula;
 use crate::literal::Lit;
 
-/// The greatest variable of a clause, 0 if it has no literal.
+/// Answers the greatest variable of a clause; 0 if it has no literal.
 fn greatest_of(clause: &[Lit]) -> u32
     ensures value { result ≡ greatest_of clause.now }
     ensures below { result < 2 ^ 31 }
@@ -18,7 +18,7 @@ fn greatest_of(clause: &[Lit]) -> u32
     greatest
 }
 
-/// The greatest variable of a formula's clauses, 0 if they have no literal.
+/// Answers the greatest variable of a formula's clauses; 0 if they have no literal.
 pub fn greatest_in(formula: &Formula) -> u32
     ensures value { result ≡ greatest_in formula.now.clauses }
     ensures below { result < 2 ^ 31 }

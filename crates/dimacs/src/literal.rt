@@ -8,6 +8,7 @@ use std::marker::Model;
 /// A variable, numbered from 1.
 #[derive(Clone, Copy, Debug, PartialEq, Eq)]
 pub struct Var {
+    /// The variable's number, from 1.
     number: u32,
 }
 
@@ -24,7 +25,7 @@ impl Model for Var {
 }
 
 impl Var {
-    /// The variable of this number.
+    /// The variable of this number, which is from 1 to 2^31 - 1.
     pub fn new(number: u32) -> Var
         requires above { 1 ≤ number }
         requires below { number < 2 ^ 31 }
@@ -33,7 +34,7 @@ impl Var {
         Var { number }
     }
 
-    /// Its number, from 1.
+    /// Answers the variable's number, from 1.
     pub fn number(self) -> u32
         ensures value { result ≡ self }
         ensures above { 1 ≤ result }
@@ -43,9 +44,10 @@ impl Var {
     }
 }
 
-/// A variable, or its negation. Its code is twice the variable's number, plus 1 if it is negated.
+/// A literal: a variable, or its negation.
 #[derive(Clone, Copy, Debug, PartialEq, Eq)]
 pub struct Lit {
+    /// Twice the variable's number, plus 1 if the literal is negated.
     code: u32,
 }
 
@@ -66,7 +68,7 @@ impl Model for Lit {
 }
 
 impl Lit {
-    /// The variable itself.
+    /// The literal that is the variable itself.
     pub fn positive(var: Var) -> Lit
         ensures { result ≡ Pos var }
     {
@@ -75,7 +77,7 @@ impl Lit {
         }
     }
 
-    /// The variable's negation.
+    /// The literal that is the variable's negation.
     pub fn negative(var: Var) -> Lit
         ensures { result ≡ Neg var }
     {
@@ -84,7 +86,7 @@ impl Lit {
         }
     }
 
-    /// The literal that is true if and only if this one is false.
+    /// Answers the literal that is true if and only if this one is false.
     #[inline]
     pub fn negate(self) -> Lit
         ensures { result ≡ negation self }
@@ -94,7 +96,7 @@ impl Lit {
         }
     }
 
-    /// Its variable.
+    /// Answers the literal's variable.
     #[inline]
     pub fn var(self) -> Var
         ensures { result ≡ var_of self }
@@ -104,7 +106,7 @@ impl Lit {
         }
     }
 
-    /// Whether it is the negation of its variable.
+    /// Answers whether the literal is the negation of its variable.
     #[inline]
     pub fn is_negative(self) -> bool
         ensures { result ≡ is_negative self }
@@ -112,7 +114,7 @@ impl Lit {
         self.code % 2 == 1
     }
 
-    /// Its index in a table of all literals, from 2.
+    /// Answers the literal's index in a table of all literals, from 2: twice the variable's number, plus 1 if the literal is negated.
     #[inline]
     pub fn index(self) -> usize
         ensures value { result ≡ index_of self }
@@ -122,7 +124,7 @@ impl Lit {
         self.code as usize
     }
 
-    /// Its number in a text: that of the variable, with a minus if it is negated.
+    /// Answers the literal's number in a text: the variable's number, with a minus if the literal is negated.
     pub fn number(self) -> i32
         ensures { result ≡ number_of self }
     {
@@ -135,7 +137,7 @@ impl Lit {
     }
 }
 
-/// Whether the clause contains the literal.
+/// Answers whether the clause contains the literal.
 pub fn has_literal(clause: &[Lit], literal: Lit) -> bool
     ensures { result ≡ has clause.now literal }
 {

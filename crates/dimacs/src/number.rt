@@ -1,4 +1,4 @@
-//! Decimal numbers in texts.
+//! Decimal numbers in texts. The parser keeps a number's absolute value, its size, capped at 100,000,000, which is above every limit.
 
 ghost use Rattle.std.specs.Prelude.{◌≡◌, ℕ, ◌<◌, ◌≤◌, List, [], ◌∷◌, Option, option_and_then, Some, None, min, length, take, drop, IfSome, MatchBool, MatchOption, slice_index, ◌≢◌, if◌then◌else◌, option_map};
 ghost use Rattle.std.specs.Bool.{OnTrue};
@@ -12,20 +12,23 @@ ghost use Rattle.dimacs.specs.text.Words.{is_white, words};
 use crate::literal::{Lit, Var};
 use crate::words::{is_white, white_len, word_len};
 
-/// A number that was read: its sign, and its size, capped at 100,000,000, which is above every limit.
+/// A number that was read.
 #[derive(Clone, Copy, Debug)]
 pub struct Number {
+    /// Whether the number has a minus.
     pub negative: bool,
+    /// The number's absolute value, but at most 100,000,000, which stands for every greater value too.
     pub size: u32,
 }
 
+/// The cap on sizes.
 const CAP: u32 = 100_000_000;
 
-/// A number of at most so many digits is below the cap.
+/// The greatest number of digits on the short path: a number of so few digits is below the cap.
 const SHORT: usize = 8;
 
 impl Number {
-    /// The literal of a number other than 0, whose size is below the cap and so exact.
+    /// Answers the literal of a number other than 0, whose size is below the cap and so exact.
     pub fn literal(self) -> Lit
         requires some { 0 < self.size }
         requires exact { self.size < 100000000 }
@@ -40,7 +43,8 @@ impl Number {
     }
 }
 
-/// The number of bytes before the first white space, and their capped value: `None` if one of them is no digit.
+/// Reads the bytes before the first white space: answers how many there are, and their capped value, `None` if one of them is no digit. No
+/// byte has the value 0.
 fn leading_digits(text: &[u8]) -> (usize, Option<u32>)
     ensures len { result.0 ≡ position_or_len is_white text.now }
     ensures bound { result.0 ≤ length text.now }
@@ -61,7 +65,7 @@ fn leading_digits(text: &[u8]) -> (usize, Option<u32>)
     (text.len(), Some(value))
 }
 
-/// The capped value of a word of digits: `None` if one of its bytes is no digit.
+/// Answers the capped value of a word of digits; `None` if one of its bytes is no digit.
 fn digits(word: &[u8]) -> Option<u32>
     ensures value { result ≡ option_map (min 100000000) (digits_from 0 word.now) }
     ensures small { IfSome result (λ n. n ≤ 100000000) }
@@ -73,8 +77,7 @@ fn digits(word: &[u8]) -> Option<u32>
     value
 }
 
-/// A number without a sign, capped at 100,000,000: `0`, or digits of which the first is 1 to 9. `None` if the token is no such
-/// number.
+/// Answers the capped value of a number without a sign: `0`, or digits of which the first is 1 to 9. `None` if the token is no such number.
 pub fn natural(word: &[u8]) -> Option<u32>
     ensures value { result ≡ option_map (min 100000000) (natural_of word.now) }
     ensures small { IfSome result (λ n. n ≤ 100000000) }
@@ -87,7 +90,7 @@ pub fn natural(word: &[u8]) -> Option<u32>
     }
 }
 
-/// The number of this size after a minus: `None` if there is no size or it is 0, since `-0` is no number.
+/// Answers the number of this size after a minus. `None` if there is no size, or it is 0, since `-0` is no number.
 fn after_minus(size: Option<u32>) -> Option<Number>
     ensures value { (n : Option ℕ) → size ≡ option_map (min 100000000) n → result ≡ option_map capped (option_and_then negated n) }
     ensures small { IfSome size (λ n. n ≤ 100000000) → IfSome result (λ n. n.size ≤ 100000000) }
@@ -102,7 +105,7 @@ fn after_minus(size: Option<u32>) -> Option<Number>
     })
 }
 
-/// The number of this size without a minus: `None` if there is no size.
+/// Answers the number of this size without a minus. `None` if there is no size.
 fn without_minus(size: Option<u32>) -> Option<Number>
     ensures value { (n : Option ℕ) → size ≡ option_map (min 100000000) n → result ≡ option_map capped (option_and_then positive n) }
     ensures small { IfSome size (λ n. n ≤ 100000000) → IfSome result (λ n. n.size ≤ 100000000) }
@@ -114,7 +117,7 @@ fn without_minus(size: Option<u32>) -> Option<Number>
     })
 }
 
-/// A number with an optional minus; `-0` is no number. `None` if the token is no number.
+/// Answers the number of a token, which may have a minus. `None` if the token is no number; `-0` is none.
 pub fn signed(word: &[u8]) -> Option<Number>
     ensures value { result ≡ option_map capped (number_of word.now) }
     ensures small { IfSome result (λ n. n.size ≤ 100000000) }
@@ -125,7 +128,8 @@ pub fn signed(word: &[u8]) -> Option<Number>
     }
 }
 
-/// The number without a sign before the first white space, and the rest of the text.
+/// Reads the number without a sign before the first white space: answers its capped value, `None` if the token is no such number, and the
+/// text from that white space on.
 fn leading_natural(text: &[u8]) -> (Option<u32>, &[u8])
     ensures value { result.0 ≡ option_map (min 100000000) (natural_of (take (position_or_len is_white text.now) text.now)) }
     ensures small { IfSome result.0 (λ n. n ≤ 100000000) }
@@ -139,8 +143,8 @@ fn leading_natural(text: &[u8]) -> (Option<u32>, &[u8])
     (value, rest)
 }
 
-/// The number before the first white space, if its first digit is 1 to 9 and its last lies before `end`, and the number of its
-/// digits. `None` also for any other token.
+/// Reads the number before the first white space: answers its value and its number of digits. `None` unless it has 1 to `end` digits and
+/// the first one is 1 to 9.
 #[inline(always)]
 fn short_size_within(text: &[u8], end: usize) -> Option<(u32, usize)>
     requires few { end ≤ 8 }
@@ -166,12 +170,11 @@ fn short_size_within(text: &[u8], end: usize) -> Option<(u32, usize)>
     Some((size, len))
 }
 
-/// The number before the first white space, if it has at most 8 digits and begins with 1 to 9, and the number of its digits.
-/// `None` also for any other token.
+/// Reads the number before the first white space: answers its value and its number of digits. `None` unless it has 1 to 8 digits and the
+/// first one is 1 to 9.
 ///
-/// Nearly every token of a text is such a number, with or without a minus, or `0`. A number of 8 digits needs no cap. Nearly
-/// always 8 bytes are left, so the loop has a constant bound and is unrolled: one branch a digit, each predicted by its own
-/// history.
+/// Nearly every token of a text is such a number, with or without a minus, or `0`. A number of 8 digits needs no cap. Nearly always 8 bytes
+/// are left, so the loop has a constant bound and is unrolled: one branch a digit, each predicted by its own history.
 #[inline(always)]
 fn short_size(text: &[u8]) -> Option<(u32, usize)>
     ensures len { IfSome result (λ p. p.1 ≡ position_or_len is_white text.now) }
@@ -187,7 +190,7 @@ fn short_size(text: &[u8]) -> Option<(u32, usize)>
     }
 }
 
-/// Whether the token before the first white space is `0`.
+/// Answers whether the token before the first white space is `0`.
 #[inline(always)]
 fn begins_with_zero(text: &[u8]) -> bool
     ensures { OnTrue result ((position_or_len is_white text.now ≡ 1) × (take 1 text.now ≡ byte "0" ∷ []) × (1 ≤ length text.now)) }
@@ -195,7 +198,7 @@ fn begins_with_zero(text: &[u8]) -> bool
     !text.is_empty() && text[0] == b'0' && (text.len() == 1 || is_white(text[1]))
 }
 
-/// Whether a text begins with a minus.
+/// Answers whether a text begins with a minus.
 #[inline(always)]
 fn begins_with_minus(text: &[u8]) -> bool
     ensures { MatchBool result ((0 < length text.now) × (slice_index text.now 0 ≡ byte "-")) (slice_index text.now 0 ≢ byte "-") }
@@ -203,11 +206,12 @@ fn begins_with_minus(text: &[u8]) -> bool
     !text.is_empty() && text[0] == b'-'
 }
 
-/// The number before the first white space, if it is `0` or has at most 8 digits, and the number of its bytes.
+/// Reads the number before the first white space: answers the number and its length in bytes. `None` unless it is `0` or has, after an
+/// optional minus, 1 to 8 digits of which the first is 1 to 9.
 ///
-/// The signs of a formula are as good as random, so a branch on the sign would be mispredicted every other time, which costs more
-/// than all digits of the number. So both signs share one loop, which starts after the sign, 0 or 1 bytes. This reads a formula
-/// of 23 MB in an eighth less time.
+/// The signs of a formula are as good as random, so a branch on the sign would be mispredicted every other time, which costs more than all
+/// digits of the number. So both signs share one loop, which starts after the sign, 0 or 1 bytes. This reads a formula of 23 MB in an
+/// eighth less time.
 #[inline(always)]
 fn short_number(text: &[u8]) -> Option<(Number, usize)>
     ensures len { IfSome result (λ p. p.1 ≡ position_or_len is_white text.now) }
@@ -232,7 +236,8 @@ fn short_number(text: &[u8]) -> Option<(Number, usize)>
     None
 }
 
-/// The number before the first white space, of any length, and the rest of the text.
+/// Reads the number before the first white space, of any length: answers the number, `None` if the token is no number, and the text from
+/// that white space on.
 #[inline(never)]
 fn any_number(text: &[u8]) -> (Option<Number>, &[u8])
     ensures value { result.0 ≡ option_map capped (number_of (take (position_or_len is_white text.now) text.now)) }
@@ -247,8 +252,8 @@ fn any_number(text: &[u8]) -> (Option<Number>, &[u8])
     (after_minus(size), rest)
 }
 
-/// The rest of the text after the first token, of `len` bytes, and after the byte of white space that ends it. So the next token
-/// usually begins at once.
+/// Answers the text after its first token, which has `len` bytes, and after the byte of white space that ends it. So the next token usually
+/// begins the answer.
 #[inline(always)]
 fn after_token(text: &[u8], len: usize) -> &[u8]
     requires len { len ≡ position_or_len is_white text.now }
@@ -263,7 +268,8 @@ fn after_token(text: &[u8], len: usize) -> &[u8]
     }
 }
 
-/// The number before the first white space, and the rest of the text, perhaps without white space at its front.
+/// Reads the number before the first white space: answers the number, `None` if the token is no number, and the text after it, without the
+/// white space or with it.
 #[inline(always)]
 fn leading_number(text: &[u8]) -> (Option<Number>, &[u8])
     ensures value { result.0 ≡ option_map capped (number_of (take (position_or_len is_white text.now) text.now)) }
@@ -277,8 +283,8 @@ fn leading_number(text: &[u8]) -> (Option<Number>, &[u8])
     }
 }
 
-/// The first token of a line as a number, in one pass, and the rest of the line. `None` if only white space is left; the number is
-/// `None` if the token is no number.
+/// Reads the first token of a line as a number, in one pass: answers the number, `None` if the token is no number, and the rest of the
+/// line. The whole answer is `None` if only white space is left.
 #[inline]
 pub fn next_number(line: &[u8]) -> Option<(Option<Number>, &[u8])>
     ensures word { MatchOption result (words line.now ≡ []) (λ p. (word : List ℕ) × (words line.now ≡ word ∷ words p.1.now) × (p.0 ≡ option_map capped (number_of word))) }

@@ -12,7 +12,7 @@ use crate::limits::Limits;
 use crate::rows::read_text;
 use std::alloc::Global;
 
-/// Reads a formula within these limits, or returns the first fault of the text.
+/// Reads a formula within these limits from its text; an `Err` is the first fault of the text.
 pub fn read_within(alloc: Global, limits: Limits, bytes: &[u8]) -> Result<Formula, DimacsFault>
     // The text spells the formula that is returned.
     ensures found { IfOk result (λ f. SpellsWithin limits bytes.now f) }
@@ -25,7 +25,7 @@ pub fn read_within(alloc: Global, limits: Limits, bytes: &[u8]) -> Result<Formul
     read_text::<Body>(alloc, limits, bytes)
 }
 
-/// Reads a formula within the written limits, or returns the first fault of the text.
+/// Reads a formula within the written limits from its text; an `Err` is the first fault of the text.
 pub fn read(alloc: Global, bytes: &[u8]) -> Result<Formula, DimacsFault>
     // The text spells the formula that is returned.
     ensures found { IfOk result (λ f. Spells bytes.now f) }

@@ -116,8 +116,9 @@ impl Connection {
         })
     }
 
-    /// Cuts the bytes that came into frames, which wait to be delivered. Answers `Closed` if there are no bytes (the link has ended), if
-    /// the worker is queued, or if the bytes are no frames, and `NoMemory` if memory is refused.
+    /// Cuts the bytes that came over the link into frames, which wait to be delivered. Answers
+    /// `Closed` if there are no bytes (the link has ended), if the worker is queued, since nothing
+    /// was asked of it, or if the bytes are no frames; and `NoMemory` if memory is refused.
     pub(crate) fn take(&mut self, bytes: &[u8]) -> Result<(), Broken>
         ensures same { self.new ≡ record self.old { reader = self.new.reader; waiting = self.new.waiting } }
         ensures taken { OnOk result (TakesPiece self.old.reader bytes.now self.old.waiting.items self.new.waiting.items (Ok tt) self.new.reader) }
@@ -230,8 +231,9 @@ impl Connection {
         self.state = State::Idle;
     }
 
-    /// The tick at which the timeout begins if the worker is told something at `tick`: that tick, unless a reply or a task is pending,
-    /// whose timeout goes on.
+    /// The tick at which the timeout begins if the worker is sent a frame at `tick`: that tick; but
+    /// while a reply or a task is pending, its own timeout goes on, so that a repeated frame does
+    /// not prolong it.
     fn timeout_start(&self, tick: u64) -> u64
         ensures { result ≡ timeout_start self.now tick }
     {
@@ -241,7 +243,8 @@ impl Connection {
         }
     }
 
-    /// Notes that the connection's worker is told, at this tick, to send something.
+    /// Notes that the connection's worker is sent a frame at this tick, to which it has to reply in
+    /// time.
     pub(crate) fn set_pending(&mut self, tick: u64)
         ensures { self.new ≡ record self.old { state = Pending; since = timeout_start self.old tick } }
     {
@@ -294,7 +297,8 @@ impl Connection {
         self.announced
     }
 
-    /// Starts the timeout anew at this tick, and counts the declined tasks from 0 again.
+    /// Starts the timeout anew at this tick, since the worker has sent something useful, and counts
+    /// the declined tasks from 0 again.
     pub(crate) fn restart_timeout(&mut self, tick: u64)
         ensures { self.new ≡ record self.old { since = tick; declined = 0 } }
     {
@@ -302,8 +306,8 @@ impl Connection {
         self.declined = 0;
     }
 
-    /// Notes that the coordinator ignored this frame of the worker. If the frame is Idle and the worker has a task, the task counts as
-    /// declined; at `MOST_DECLINED` in a row the answer is `Closed`.
+    /// Notes that the coordinator ignored this frame of the worker. An Idle from a worker that has
+    /// a task counts as a declined task; at `MOST_DECLINED` in a row the answer is `Closed`.
     pub(crate) fn ignore(&mut self, frame: &Frame) -> Result<(), Broken>
         ensures { self.new ≡ record self.old { declined = self.new.declined } }
     {
@@ -332,7 +336,8 @@ impl Connection {
         }
     }
 
-    /// Tells whether at least `ticks` ticks have passed since the timeout of the connection began.
+    /// Tells whether the timeout began at least `ticks` ticks ago, in whatever state the connection
+    /// is. While the verdict is handed out, such a connection is closed, even of an idle worker.
     pub(crate) fn is_quiet(&self, tick: u64, ticks: u64) -> bool {
         ticks <= tick.saturating_sub(self.since)
     }

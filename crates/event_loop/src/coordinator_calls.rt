@@ -22,7 +22,8 @@ pub(crate) fn deliver(coordinator: &mut Coordinator, frame: &Frame) -> Reaction
     coordinator.deliver(frame)
 }
 
-/// Polls the coordinator for its next frame to a worker. An error is want of memory.
+/// Polls the coordinator for its next frame to a worker, whose number it has. An error is want of
+/// memory.
 fn ask(coordinator: &mut Coordinator, worker: WorkerNumber) -> Result<Frame, AllocError>
     requires { IsWorker coordinator.old worker }
     ensures formula { coordinator.new.formula ≡ coordinator.old.formula }
@@ -34,7 +35,7 @@ fn ask(coordinator: &mut Coordinator, worker: WorkerNumber) -> Result<Frame, All
     coordinator.poll(worker)
 }
 
-/// The frame, or `None` if it is Rest, which tells the worker nothing.
+/// The frame to send, or `None` for Rest, which asks nothing of the worker and is not sent.
 fn told_by(frame: Frame) -> Option<Frame>
     ensures { IsToldBy frame result }
 {
@@ -90,7 +91,7 @@ pub(crate) fn is_decided(coordinator: &Coordinator) -> bool
     !matches!(coordinator.verdict(), Verdict::Nothing)
 }
 
-/// The progress of the coordinator: how many leaves it began with, has and has closed, and how many jobs it gave.
+/// The progress of the coordinator: how many leaves it began with, has and has closed, and how many workers have a job.
 pub(crate) fn progress_of(coordinator: &Coordinator) -> Progress {
     Progress::of(
         coordinator.initial_leaf_count(),

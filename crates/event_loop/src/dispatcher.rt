@@ -50,6 +50,7 @@ pub(crate) fn close<A: Arrivals>(
 )
     ensures formula { dispatcher.new.coordinator.formula ≡ dispatcher.old.coordinator.formula }
     ensures verdict { dispatcher.new.coordinator.verdict ≡ dispatcher.old.coordinator.verdict }
+    // No send and no receive; hanging up is not counted.
     ensures spends { Spends A.Arrivals 0 links.old links.new }
     ensures refusals { (p : ℕ) → A.refusal_count links.new p ≡ A.refusal_count links.old p }
     ensures closed { connection.new ≡ None }
@@ -63,7 +64,7 @@ pub(crate) fn close<A: Arrivals>(
 }
 
 /// Handles the result of a connection's turn: at `Closed` the connection is closed, and `NoMemory` is an error, which ends the run.
-pub(crate) fn settle<A: Arrivals>(
+pub(crate) fn close_if_broken<A: Arrivals>(
     links: &mut A,
     dispatcher: &mut Dispatcher,
     place: u8,
@@ -72,6 +73,7 @@ pub(crate) fn settle<A: Arrivals>(
 ) -> Result<(), AllocError>
     ensures formula { dispatcher.new.coordinator.formula ≡ dispatcher.old.coordinator.formula }
     ensures verdict { dispatcher.new.coordinator.verdict ≡ dispatcher.old.coordinator.verdict }
+    // No send and no receive; hanging up is not counted.
     ensures spends { Spends A.Arrivals 0 links.old links.new }
     ensures refusals { (p : ℕ) → A.refusal_count links.new p ≡ A.refusal_count links.old p }
     ensures closed { turn ≡ Err Closed → connection.new ≡ None }
@@ -91,7 +93,7 @@ pub(crate) fn settle<A: Arrivals>(
 
 /// Takes bytes that came over a connection: makes the handshake if no worker is registered, and else delivers the frames in the bytes to
 /// the coordinator. Answers why the connection is broken, if it is.
-fn take<A: Arrivals>(
+fn handle_bytes<A: Arrivals>(
     links: &mut A,
     dispatcher: &mut Dispatcher,
     at: At,
@@ -99,7 +101,9 @@ fn take<A: Arrivals>(
     bytes: &[u8],
 ) -> Result<(), Broken>
     ensures formula { dispatcher.new.coordinator.formula ≡ dispatcher.old.coordinator.formula }
+    // At most 4,037 sends: one for each frame, and what is received at once has no more frames.
     ensures spends { Spends A.Arrivals 4037 links.old links.new }
+    // At most one call is refused, over this link alone, and only if the result is `Closed`.
     ensures refusals { Refuses A.Arrivals at.place (one_if_closed result) 0 links.old links.new }
     ensures handled { OnOk result (IsSome (registered_worker connection.old) → BytesHandled bytes.now connection.old connection.new dispatcher.old.coordinator dispatcher.new.coordinator) }
     ensures owner { registered_worker connection.new ≡ registered_worker connection.old }
@@ -129,7 +133,9 @@ fn receive<A: Arrivals>(
     bytes: &[u8],
 ) -> Result<(), AllocError>
     ensures formula { dispatcher.new.coordinator.formula ≡ dispatcher.old.coordinator.formula }
+    // At most 4,037 sends: one for each frame, and what is received at once has no more frames.
     ensures spends { Spends A.Arrivals 4037 links.old links.new }
+    // Only calls over this link are refused, and at most one, which closes the connection.
     ensures refusals { Refuses A.Arrivals at.place (one_if_open connection.old) (one_if_open connection.new) links.old links.new }
     ensures owner { (worker : ℕ) → registered_in connection.new ≡ Some worker → registered_in connection.old ≡ Some worker }
     ensures handled { OnOk result (BytesHandledAt bytes.now connection.old connection.new dispatcher.old.coordinator dispatcher.new.coordinator) }
@@ -139,9 +145,9 @@ fn receive<A: Arrivals>(
             links.hang_up(at.place);
             return Ok(());
         }
-        Some(connection) => take(links, dispatcher, at, connection, bytes),
+        Some(connection) => handle_bytes(links, dispatcher, at, connection, bytes),
     };
-    settle(links, dispatcher, at.place, connection, turn)
+    close_if_broken(links, dispatcher, at.place, connection, turn)
 }
 
 /// Takes bytes that came over the link at `at.place`, and closes the connection if they break it. If there is no such slot, or it is empty,
@@ -154,6 +160,7 @@ pub(crate) fn receive_at<A: Arrivals>(
     bytes: &[u8],
 ) -> Result<(), AllocError>
     ensures formula { dispatcher.new.coordinator.formula ≡ dispatcher.old.coordinator.formula }
+    // At most 4,037 sends: one for each frame, and what is received at once has no more frames.
     ensures spends { Spends A.Arrivals 4037 links.old links.new }
     ensures each { (p : ℕ) → A.refusal_count links.new p + open_at slots.new p ≤ A.refusal_count links.old p + open_at slots.old p }
     ensures handled { OnOk result (BytesHandledAt bytes.now (connection_at slots.old at.place) (connection_at slots.new at.place) dispatcher.old.coordinator dispatcher.new.coordinator) }
@@ -188,8 +195,8 @@ pub(crate) fn restart_timeouts(slots: &mut [Option<Connection>], tick: u64)
     }
 }
 
-/// Puts a new connection into the slot `place`, if there is such a slot. If the slot held a connection, that has ended, and its worker is
-/// lost.
+/// Puts a new connection into the slot of its link. A connection that the slot still held has
+/// ended, and its worker is lost.
 pub(crate) fn insert(
     dispatcher: &mut Dispatcher,
     place: u8,

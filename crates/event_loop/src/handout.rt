@@ -24,6 +24,8 @@ impl Run {
         ensures formula { formula_of self.new ≡ formula_of self.old }
         ensures most { AreBounded (A.arrival_count links.old) (A.arrival_count links.new) (A.call_count links.old) (A.call_count links.new) }
         ensures rises { A.call_count links.old ≤ A.call_count links.new }
+        // A link that refuses a call is closed: at each place refusals and open connections
+        // together rise by no more than the links that begin there.
         ensures each { EachCloses (open_of self.old) (open_of self.new) (A.link_count links.old) (A.link_count links.new) (A.refusal_count links.old) (A.refusal_count links.new) }
         ensures apart { AreApart self.old.slots.items → AreApart self.new.slots.items }
         ensures ended { OnOk result (HandoutEnded (A.arrival_count links.old) (A.arrival_count links.new) (A.has_ended links.new) self.new) }
@@ -52,6 +54,8 @@ impl Run {
     pub fn hand_out<A: Arrivals>(&mut self, links: &mut A) -> Result<(), AllocError>
         ensures formula { formula_of self.new ≡ formula_of self.old }
         ensures most { AreBounded (A.arrival_count links.old) (A.arrival_count links.new) (A.call_count links.old) (A.call_count links.new) }
+        // A link that refuses a call is closed: at each place refusals and open connections
+        // together rise by no more than the links that begin there.
         ensures each { EachCloses (open_of self.old) (open_of self.new) (A.link_count links.old) (A.link_count links.new) (A.refusal_count links.old) (A.refusal_count links.new) }
         ensures handed { OnOk result (HandsOut self.old (A.call_count links.old) (A.call_count links.new) (A.arrival_count links.old) (A.arrival_count links.new) (A.has_ended links.new) self.new) }
     {

@@ -9,7 +9,7 @@ ghost use Rattle.event_loop.specs.inner.Timeouts.{is_idle};
 ghost use Rattle.event_loop.specs.inner.Registrations.{AreApart, idle_in, registered_in};
 
 use crate::connection::Connection;
-use crate::dispatcher::{Dispatcher, settle};
+use crate::dispatcher::{Dispatcher, close_if_broken};
 use crate::sender::{At, poll_and_send};
 use links::Arrivals;
 use std::alloc::AllocError;
@@ -43,6 +43,7 @@ fn poll_one<A: Arrivals>(
     ensures formula { dispatcher.new.coordinator.formula ≡ dispatcher.old.coordinator.formula }
     ensures verdict { dispatcher.new.coordinator.verdict ≡ dispatcher.old.coordinator.verdict }
     ensures spends { Spends A.Arrivals 1 links.old links.new }
+    // Only calls over this link are refused, and at most one, which closes the connection.
     ensures refusals { Refuses A.Arrivals at.place (one_if_open connection.old) (one_if_open connection.new) links.old links.new }
     ensures owner { (worker : ℕ) → registered_in connection.new ≡ Some worker → registered_in connection.old ≡ Some worker }
     ensures idle { OnOk result ((worker : ℕ) → idle_in connection.new ≡ Some worker → HasNothing dispatcher.new.coordinator worker) }
@@ -57,7 +58,7 @@ fn poll_one<A: Arrivals>(
             connection,
         ),
     };
-    settle(links, dispatcher, at.place, connection, turn)
+    close_if_broken(links, dispatcher, at.place, connection, turn)
 }
 
 /// Sends the worker of a slot, if it is idle, what the coordinator has for it. Answers whether it is still idle; false if it was not idle.
@@ -71,6 +72,7 @@ fn poll_if_idle<A: Arrivals>(
     ensures formula { dispatcher.new.coordinator.formula ≡ dispatcher.old.coordinator.formula }
     ensures verdict { dispatcher.new.coordinator.verdict ≡ dispatcher.old.coordinator.verdict }
     ensures spends { Spends A.Arrivals 1 links.old links.new }
+    // Only calls over this link are refused, and at most one, which closes the connection.
     ensures refusals { Refuses A.Arrivals at.place (one_if_open connection.old) (one_if_open connection.new) links.old links.new }
     ensures owner { (worker : ℕ) → registered_in connection.new ≡ Some worker → registered_in connection.old ≡ Some worker }
     ensures idle { IfOk result (λ stays. MatchBool stays (IsSomeAnd (idle_in connection.new) (HasNothing dispatcher.new.coordinator)) (idle_in connection.new ≡ None)) }
@@ -82,8 +84,9 @@ fn poll_if_idle<A: Arrivals>(
     Ok(is_idle(connection))
 }
 
-/// Sends the idle workers of the slots 0 to 254, in order, what the coordinator has for them, and stops at the first that stays idle: if
-/// there is nothing for one worker, there is nothing for any other. An error is want of memory.
+/// Sends the idle workers of the slots 0 to 254, in order, what the coordinator has for them by
+/// now, and stops at the first that stays idle: if there is nothing for one worker, there is
+/// nothing for any other. An error is want of memory.
 pub(crate) fn poll_idle<A: Arrivals>(
     links: &mut A,
     dispatcher: &mut Dispatcher,
@@ -92,6 +95,7 @@ pub(crate) fn poll_idle<A: Arrivals>(
 ) -> Result<(), AllocError>
     ensures formula { dispatcher.new.coordinator.formula ≡ dispatcher.old.coordinator.formula }
     ensures verdict { dispatcher.new.coordinator.verdict ≡ dispatcher.old.coordinator.verdict }
+    // At most one send for each of the 255 slots.
     ensures spends { Spends A.Arrivals 255 links.old links.new }
     ensures each { (p : ℕ) → A.refusal_count links.new p + open_at slots.new p ≤ A.refusal_count links.old p + open_at slots.old p }
     ensures told { OnOk result (IdleHaveNothing slots.new dispatcher.new.coordinator) }

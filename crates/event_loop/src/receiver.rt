@@ -80,6 +80,7 @@ fn handle_frame<A: Arrivals>(
 ) -> Result<(), Broken>
     ensures formula { coordinator.new.formula ≡ coordinator.old.formula }
     ensures spends { Spends A.Arrivals 1 links.old links.new }
+    // At most one call is refused, over this link alone, and only if the result is `Closed`.
     ensures refusals { Refuses A.Arrivals at.place (one_if_closed result) 0 links.old links.new }
     ensures link { StaysLinked connection.old connection.new }
     ensures delivered { OnOk result (IsNextDelivered (registered_worker connection.old) frame.now coordinator.old coordinator.new) }
@@ -100,7 +101,9 @@ pub(crate) fn handle_frames<A: Arrivals>(
     connection: &mut Connection,
 ) -> Result<(), Broken>
     ensures formula { coordinator.new.formula ≡ coordinator.old.formula }
+    // At most 4,037 sends: one for each frame, and what is received at once has no more frames.
     ensures spends { Spends A.Arrivals 4037 links.old links.new }
+    // At most one call is refused, over this link alone, and only if the result is `Closed`.
     ensures refusals { Refuses A.Arrivals at.place (one_if_closed result) 0 links.old links.new }
     ensures owner { registered_worker connection.new ≡ registered_worker connection.old }
     ensures reader { connection.new.reader ≡ connection.old.reader }
@@ -147,7 +150,9 @@ pub(crate) fn register<A: Arrivals>(
 ) -> Result<(), Broken>
     ensures formula { coordinator.new.formula ≡ coordinator.old.formula }
     ensures none { queued_worker connection.old ≡ None → (coordinator.new ≡ coordinator.old) × (connection.new ≡ connection.old) × (result ≡ Ok tt) }
+    // At most 4,038 sends: for the first frame, and for up to 4,037 that wait after it.
     ensures spends { Spends A.Arrivals 4038 links.old links.new }
+    // At most one call is refused, over this link alone, and only if the result is `Closed`.
     ensures refusals { Refuses A.Arrivals at.place (one_if_closed result) 0 links.old links.new }
     ensures owner { (worker : ℕ) → queued_worker connection.old ≡ Some worker → registered_worker connection.new ≡ Some worker }
     ensures waits { OnOk result (queued_worker connection.new ≡ None) }

@@ -8,7 +8,7 @@ ghost use Rattle.event_loop.specs.inner.Connections.{AreFresh, IsFresh};
 ghost use Rattle.event_loop.specs.inner.Registrations.{AreApart, NobodyMayRegister, may_register, queued_in, registered_in, is_registered};
 
 use crate::connection::Connection;
-use crate::dispatcher::{Dispatcher, registered, settle};
+use crate::dispatcher::{Dispatcher, close_if_broken, registered};
 use crate::receiver::register;
 use crate::sender::At;
 use frames::WorkerNumber;
@@ -25,7 +25,8 @@ fn is_registered(connection: &Option<Connection>, worker: WorkerNumber) -> bool
     }
 }
 
-/// Tells whether this worker is registered at the connection of any slot.
+/// Tells whether this worker is registered at the connection of any slot; then another connection
+/// of it stays queued.
 fn has(slots: &[Option<Connection>], worker: WorkerNumber) -> bool
     ensures { result ≡ list_any (is_registered worker) slots.now }
 {
@@ -65,7 +66,9 @@ fn register_one<A: Arrivals>(
     connection: &mut Option<Connection>,
 ) -> Result<(), AllocError>
     ensures formula { dispatcher.new.coordinator.formula ≡ dispatcher.old.coordinator.formula }
+    // At most 4,038 sends: for the first frame, and for up to 4,037 that wait after it.
     ensures spends { Spends A.Arrivals 4038 links.old links.new }
+    // Only calls over this link are refused, and at most one, which closes the connection.
     ensures refusals { Refuses A.Arrivals at.place (one_if_open connection.old) (one_if_open connection.new) links.old links.new }
     ensures fresh { IsFresh connection.old → (dispatcher.new.coordinator.verdict ≡ dispatcher.old.coordinator.verdict) × IsFresh connection.new }
     ensures barred { may_register ≡ false → (connection.new ≡ connection.old) × (dispatcher.new ≡ dispatcher.old) × (result ≡ Ok tt) }
@@ -85,7 +88,7 @@ fn register_one<A: Arrivals>(
             connection,
         ),
     };
-    settle(links, dispatcher, at.place, connection, turn)
+    close_if_broken(links, dispatcher, at.place, connection, turn)
 }
 
 /// Registers, in the slots 0 to 254 in order, each queued worker that is registered at no connection. An error is want of memory.
@@ -97,6 +100,7 @@ pub(crate) fn register_all<A: Arrivals>(
 ) -> Result<(), AllocError>
     ensures formula { dispatcher.new.coordinator.formula ≡ dispatcher.old.coordinator.formula }
     ensures fresh { AreFresh slots.old → dispatcher.new.coordinator.verdict ≡ dispatcher.old.coordinator.verdict }
+    // At most 4,038 sends for each of the 255 slots.
     ensures spends { Spends A.Arrivals (4038 * 255) links.old links.new }
     ensures each { (p : ℕ) → A.refusal_count links.new p + open_at slots.new p ≤ A.refusal_count links.old p + open_at slots.old p }
     ensures apart { AreApart slots.old → AreApart slots.new }

@@ -1,7 +1,8 @@
 //! The run of a coordinator: its state, and one round for each event.
 
-ghost use Rattle.std.specs.Prelude.{◌≡◌, ◌≢◌, ◌≤◌, ◌+◌, ℕ, [], length, All, None, IfOk, OnOk, false, true, not};
+ghost use Rattle.std.specs.Prelude.{◌≡◌, ◌<◌, ◌≢◌, ◌≤◌, ◌+◌, ℕ, [], length, All, None, IfOk, OnOk, false, true, not};
 ghost use Rattle.dimacs.specs.logic.Cnf.{Cnf};
+ghost use Rattle.dimacs.specs.logic.Literal.{IsWithin as IsLiteralWithin};
 ghost use Rattle.cube_split.specs.Pairs.{IsBaseWith};
 ghost use Rattle.evidence.specs.Jobs.{IsOverBase};
 ghost use Rattle.lrat_check.specs.Verdicts.{Right};
@@ -81,6 +82,7 @@ impl Run {
         plan: &Plan,
     ) -> Result<Run, AllocError>
         requires inside { (B : Cnf) → IsBaseWith opened.formula opened.definitions.wanted B → All (IsOverBase B) tree }
+        requires narrow { 1000000 < opened.formula.vars → All (All (IsLiteralWithin 2000000)) tree }
         requires workers { (1 ≤ plan.now.workers) × (plan.now.workers ≤ 64) }
         ensures formula { IfOk result (λ r. formula_of r ≡ opened.formula) }
         ensures verdict { IfOk result (λ r. verdict_of r ≡ Nothing) }
@@ -124,7 +126,7 @@ impl Run {
     }
 
     /// Puts a new connection into the slot of a link that begins. An error is want of memory.
-    fn begin(&mut self, place: u8) -> Result<(), AllocError>
+    fn add_connection(&mut self, place: u8) -> Result<(), AllocError>
         ensures formula { formula_of self.new ≡ formula_of self.old }
         ensures verdict { verdict_of self.new ≡ verdict_of self.old }
         ensures opens { (p : ℕ) → open_of self.new p ≤ open_of self.old p + begun_at (Event.Linked place) p }
@@ -139,13 +141,15 @@ impl Run {
     }
 
     /// Takes bytes that came over the link at `place`; no bytes are its end. An error is want of memory.
-    fn take<A: Arrivals>(
+    fn take_bytes<A: Arrivals>(
         &mut self,
         links: &mut A,
         place: u8,
         bytes: &[u8],
     ) -> Result<(), AllocError>
         ensures formula { formula_of self.new ≡ formula_of self.old }
+        // At most 4,037 sends: one for each frame, and what is received at once has no more
+        // frames.
         ensures spends { Spends A.Arrivals 4037 links.old links.new }
         ensures each { (p : ℕ) → A.refusal_count links.new p + open_of self.new p ≤ A.refusal_count links.old p + open_of self.old p }
         ensures first { self.old.slots.items ≡ [] → (verdict_of self.new ≡ verdict_of self.old) × (self.new.slots.items ≡ []) }
@@ -170,6 +174,8 @@ impl Run {
     ) -> Result<(), AllocError>
         requires { IsWithin event (length room.now) }
         ensures formula { formula_of self.new ≡ formula_of self.old }
+        // At most 4,037 sends: one for each frame, and what is received at once has no more
+        // frames.
         ensures spends { Spends A.Arrivals 4037 links.old links.new }
         ensures each { (p : ℕ) → A.refusal_count links.new p + open_of self.new p ≤ A.refusal_count links.old p + open_of self.old p + begun_at event p }
         ensures first { self.old.slots.items ≡ [] → (verdict_of self.new ≡ verdict_of self.old) × AreFresh self.new.slots.items }
@@ -177,8 +183,8 @@ impl Run {
         ensures handled { OnOk result (EventHandled event room.now self.old.slots.items self.new.slots.items self.old.dispatcher.coordinator self.new.dispatcher.coordinator) }
     {
         match event {
-            Event::Linked { place } => self.begin(place),
-            Event::Bytes { place, count } => self.take(links, place, &room[..count]),
+            Event::Linked { place } => self.add_connection(place),
+            Event::Bytes { place, count } => self.take_bytes(links, place, &room[..count]),
             Event::Quiet => {
                 join_ahead(&mut self.dispatcher.coordinator);
                 Ok(())
@@ -190,12 +196,16 @@ impl Run {
     /// Receives and handles the next event. Answers whether an event may come after it. An error is want of memory.
     pub(crate) fn receive_next<A: Arrivals>(&mut self, links: &mut A) -> Result<bool, AllocError>
         ensures formula { formula_of self.new ≡ formula_of self.old }
+        // One receive, and at most 4,037 sends: one for each frame of what was received.
         ensures one { RoseBy 1 (A.call_count links.old) (A.call_count links.new) }
         ensures most { A.call_count links.new ≤ A.call_count links.old + 4038 }
         ensures rises { A.call_count links.old ≤ A.call_count links.new }
         ensures arrivals { A.arrival_count links.old ≤ A.arrival_count links.new }
         ensures arrived { IfOk result (λ goes_on. goes_on ≡ true → A.arrival_count links.new ≡ A.arrival_count links.old + 1) }
+        // A link that refuses a call is closed: at each place refusals and open connections
+        // together rise by no more than the links that begin there.
         ensures each { EachCloses (open_of self.old) (open_of self.new) (A.link_count links.old) (A.link_count links.new) (A.refusal_count links.old) (A.refusal_count links.new) }
+        // Without a connection before, the event leads to no verdict and to no handshake.
         ensures first { self.old.slots.items ≡ [] → (verdict_of self.new ≡ verdict_of self.old) × AreFresh self.new.slots.items }
         ensures apart { AreApart self.old.slots.items → AreApart self.new.slots.items }
         ensures over { IfOk result (λ goes_on. goes_on ≡ false → A.has_ended links.new ≡ true) }
@@ -227,7 +237,8 @@ impl Run {
         }
     }
 
-    /// Notes the tick of the last event as the one at which a connection was open, if one is open or no tick was noted yet.
+    /// Notes the tick of the last event as the last one at which a connection was open. The time
+    /// without a connection is counted from there.
     fn note_link(&mut self)
         ensures { self.new ≡ record self.old { linked = linked_by self.old.linked (has_link self.old) self.old.tick } }
     {
@@ -241,6 +252,7 @@ impl Run {
     fn handle_tick<A: Arrivals>(&mut self, links: &mut A, before: u64) -> Result<(), AllocError>
         ensures formula { formula_of self.new ≡ formula_of self.old }
         ensures verdict { verdict_of self.new ≡ verdict_of self.old }
+        // No send and no receive; hanging up is not counted.
         ensures spends { Spends A.Arrivals 0 links.old links.new }
         ensures each { (p : ℕ) → A.refusal_count links.new p + open_of self.new p ≤ A.refusal_count links.old p + open_of self.old p }
         ensures fresh { AreFresh self.old.slots.items → AreFresh self.new.slots.items }
@@ -256,10 +268,12 @@ impl Run {
         Ok(())
     }
 
-    /// Does what follows each event: handles timeouts if the tick differs from `before`, registers queued workers, and polls the
-    /// coordinator for idle ones. An error is want of memory.
+    /// Does what follows each event: closes overdue connections if the tick has changed since
+    /// `before`, registers queued workers, and polls the coordinator for idle ones. An error is
+    /// want of memory.
     fn handle_waiting<A: Arrivals>(&mut self, links: &mut A, before: u64) -> Result<(), AllocError>
         ensures formula { formula_of self.new ≡ formula_of self.old }
+        // At most 4,038 sends for a registration and one for a poll, in each of the 255 slots.
         ensures spends { Spends A.Arrivals 1029945 links.old links.new }
         ensures each { (p : ℕ) → A.refusal_count links.new p + open_of self.new p ≤ A.refusal_count links.old p + open_of self.old p }
         ensures fresh { AreFresh self.old.slots.items → verdict_of self.new ≡ verdict_of self.old }
@@ -276,10 +290,13 @@ impl Run {
     pub(crate) fn round<A: Arrivals>(&mut self, links: &mut A) -> Result<bool, AllocError>
         ensures formula { formula_of self.new ≡ formula_of self.old }
         ensures one { RoseBy 1 (A.call_count links.old) (A.call_count links.new) }
+        // At most 4,039 calls for each of 256 connections.
         ensures most { A.call_count links.new ≤ A.call_count links.old + 1033984 }
         ensures rises { A.call_count links.old ≤ A.call_count links.new }
         ensures arrivals { A.arrival_count links.old ≤ A.arrival_count links.new }
         ensures arrived { IfOk result (λ goes_on. goes_on ≡ true → A.arrival_count links.new ≡ A.arrival_count links.old + 1) }
+        // A link that refuses a call is closed: at each place refusals and open connections
+        // together rise by no more than the links that begin there.
         ensures each { EachCloses (open_of self.old) (open_of self.new) (A.link_count links.old) (A.link_count links.new) (A.refusal_count links.old) (A.refusal_count links.new) }
         ensures first { self.old.slots.items ≡ [] → verdict_of self.new ≡ verdict_of self.old }
         ensures apart { AreApart self.old.slots.items → AreApart self.new.slots.items }

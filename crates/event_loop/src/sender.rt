@@ -70,7 +70,8 @@ impl Patience {
         }
     }
 
-    /// The timeout in ticks of a task whose cube has this hash; `None` is no timeout.
+    /// The timeout in ticks of a task whose cube has this hash: doubled for each time that such a
+    /// leaf was taken back, up to `DOUBLINGS` times. `None` is no timeout.
     fn of(&self, leaf: u64) -> Option<u64> {
         let mut ticks = self.ticks?;
         let mut doublings = DOUBLINGS;
@@ -83,15 +84,16 @@ impl Patience {
         Some(ticks)
     }
 
-    /// Notes that a leaf whose cube has this hash was taken back from a worker. An error is want of memory.
+    /// Notes that a leaf whose cube has this hash was taken back from a worker at a timeout; its
+    /// next task has twice the time. An error is want of memory.
     pub(crate) fn note(&mut self, leaf: u64) -> Result<(), AllocError> {
         self.taken_back.push(leaf)?;
         Ok(())
     }
 }
 
-/// Writes into `room`, from index `at`, the frame that asks for the part of an answer at this offset. Answers the index after the frame;
-/// `None` if `room` is too short.
+/// Writes into `room`, from index `at`, the Fetch frame that asks for the bytes of the evidence at
+/// this offset. Answers the index after the frame; `None` if `room` is too short.
 fn write_fetch(attempt: &Attempt, offset: u32, room: &mut [u8], at: usize) -> Option<usize>
     requires { at ≤ length room.old }
     ensures { IfSome result (λ end. end ≤ length room.new) }
@@ -106,8 +108,9 @@ fn write_fetch(attempt: &Attempt, offset: u32, room: &mut [u8], at: usize) -> Op
     Some(at + encode(&frame, &mut room[at..]))
 }
 
-/// Writes into `room`, from index `at`, the frames that ask for the `parts` parts of an answer after the part at `offset`, or as many
-/// frames as `room` has space for. Answers how many frames were written, and the index after them.
+/// Writes into `room`, from index `at`, Fetch frames for the `parts` parts of the evidence after
+/// the one at `offset`, or as many as fit. So several parts cost one round trip. Answers how many
+/// frames were written, and the index after them.
 fn write_further(
     attempt: &Attempt,
     offset: u32,
@@ -131,8 +134,9 @@ fn write_further(
     (parts, at)
 }
 
-/// Writes a frame at the front of `room`. If it asks for a part of an answer, which has `announced` bytes, the frames that ask for the next
-/// parts follow. Answers how many frames were written, and the index after them.
+/// Writes a frame at the front of `room`. If it is a Fetch, Fetch frames for the next parts of the
+/// evidence, which has `announced` bytes, follow it. Answers how many frames were written, and the
+/// index after them.
 fn write(frame: &Frame, announced: u32, room: &mut [u8]) -> (u32, usize)
     requires { 4037 ≤ length room.old }
     ensures { result.1 ≤ length room.new }
@@ -150,8 +154,9 @@ fn write(frame: &Frame, announced: u32, room: &mut [u8]) -> (u32, usize)
     }
 }
 
-/// Sends a frame over the link of a connection, and notes how many replies are pending. If the frame asks for a part of an answer, the
-/// frames that ask for the next parts are sent with it. Answers `Closed` if the link refuses the bytes.
+/// Sends a frame over the link of a connection, and notes how many replies are pending. A Fetch is
+/// sent with those for the next parts of the evidence. Answers `Closed` if the link refuses the
+/// bytes.
 fn send<A: Arrivals>(
     links: &mut A,
     place: u8,
@@ -161,6 +166,7 @@ fn send<A: Arrivals>(
     ensures connection { connection.new ≡ record connection.old { pending_replies = connection.new.pending_replies } }
     ensures calls { A.call_count links.new ≡ one_more (A.call_count links.old) }
     ensures spends { Spends A.Arrivals 1 links.old links.new }
+    // At most one call is refused, over this link alone, and only if the result is `Closed`.
     ensures refusals { Refuses A.Arrivals place (one_if_closed result) 0 links.old links.new }
 {
     let mut room = [0u8; LONGEST];
@@ -200,6 +206,7 @@ fn send_unless_pending<A: Arrivals>(
     ensures pending { 0 < connection.old.pending_replies → A.call_count links.new ≡ A.call_count links.old }
     ensures told { connection.old.pending_replies ≡ 0 → A.call_count links.new ≡ one_more (A.call_count links.old) }
     ensures spends { Spends A.Arrivals 1 links.old links.new }
+    // At most one call is refused, over this link alone, and only if the result is `Closed`.
     ensures refusals { Refuses A.Arrivals at.place (one_if_closed result) 0 links.old links.new }
     ensures link { IsSome (registered_worker connection.old) → StaysLinked connection.old connection.new }
     ensures idle { idle_worker connection.new ≡ None }
@@ -224,6 +231,7 @@ pub(crate) fn poll_and_send<A: Arrivals>(
     ensures formula { coordinator.new.formula ≡ coordinator.old.formula }
     ensures verdict { coordinator.new.verdict ≡ coordinator.old.verdict }
     ensures spends { Spends A.Arrivals 1 links.old links.new }
+    // At most one call is refused, over this link alone, and only if the result is `Closed`.
     ensures refusals { Refuses A.Arrivals at.place (one_if_closed result) 0 links.old links.new }
     ensures link { StaysLinked connection.old connection.new }
     ensures asked { OnOk result (PolledFor (registered_worker connection.old) coordinator.old coordinator.new) }

@@ -43,7 +43,9 @@ fn close_overdue<A: Arrivals>(
 ) -> Result<(), AllocError>
     ensures formula { dispatcher.new.coordinator.formula ≡ dispatcher.old.coordinator.formula }
     ensures verdict { dispatcher.new.coordinator.verdict ≡ dispatcher.old.coordinator.verdict }
+    // No send and no receive; hanging up is not counted.
     ensures spends { Spends A.Arrivals 0 links.old links.new }
+    // Only calls over this link are refused, and at most one, which closes the connection.
     ensures refusals { Refuses A.Arrivals at.place (one_if_open connection.old) (one_if_open connection.new) links.old links.new }
     ensures fresh { IsFresh connection.old → IsFresh connection.new }
     ensures ended { is_overdue_in connection.old at.tick is_other_idle ≡ true → (connection.new ≡ None) × IsLost (registered_in connection.old) dispatcher.old.coordinator dispatcher.new.coordinator }
@@ -70,6 +72,7 @@ pub(crate) fn close_all_overdue<A: Arrivals>(
 ) -> Result<(), AllocError>
     ensures formula { dispatcher.new.coordinator.formula ≡ dispatcher.old.coordinator.formula }
     ensures verdict { dispatcher.new.coordinator.verdict ≡ dispatcher.old.coordinator.verdict }
+    // No send and no receive; hanging up is not counted.
     ensures spends { Spends A.Arrivals 0 links.old links.new }
     ensures each { (p : ℕ) → A.refusal_count links.new p + open_at slots.new p ≤ A.refusal_count links.old p + open_at slots.old p }
     ensures fresh { AreFresh slots.old → AreFresh slots.new }
@@ -93,7 +96,8 @@ pub(crate) fn close_all_overdue<A: Arrivals>(
     Ok(())
 }
 
-/// Closes the connection of a slot if no worker is registered at it, or if its timeout began at least `ticks` ticks ago.
+/// Closes the connection of a slot, while the verdict is handed out, if no worker is registered at
+/// it, or if its timeout began at least `ticks` ticks ago.
 fn close_if_inactive<A: Arrivals>(
     links: &mut A,
     dispatcher: &mut Dispatcher,
@@ -103,7 +107,9 @@ fn close_if_inactive<A: Arrivals>(
 )
     ensures formula { dispatcher.new.coordinator.formula ≡ dispatcher.old.coordinator.formula }
     ensures verdict { dispatcher.new.coordinator.verdict ≡ dispatcher.old.coordinator.verdict }
+    // No send and no receive; hanging up is not counted.
     ensures spends { Spends A.Arrivals 0 links.old links.new }
+    // Only calls over this link are refused, and at most one, which closes the connection.
     ensures refusals { Refuses A.Arrivals at.place (one_if_open connection.old) (one_if_open connection.new) links.old links.new }
     ensures owner { (worker : ℕ) → registered_in connection.new ≡ Some worker → registered_in connection.old ≡ Some worker }
 {
@@ -117,7 +123,8 @@ fn close_if_inactive<A: Arrivals>(
     }
 }
 
-/// Closes each connection of the slots 0 to 254 at which no worker is registered, or whose timeout began at least `ticks` ticks ago.
+/// While the verdict is handed out, closes each connection of the slots 0 to 254 at which no worker
+/// is registered, or whose timeout began at least `ticks` ticks ago.
 pub(crate) fn close_inactive<A: Arrivals>(
     links: &mut A,
     dispatcher: &mut Dispatcher,
@@ -127,6 +134,7 @@ pub(crate) fn close_inactive<A: Arrivals>(
 )
     ensures formula { dispatcher.new.coordinator.formula ≡ dispatcher.old.coordinator.formula }
     ensures verdict { dispatcher.new.coordinator.verdict ≡ dispatcher.old.coordinator.verdict }
+    // No send and no receive; hanging up is not counted.
     ensures spends { Spends A.Arrivals 0 links.old links.new }
     ensures each { (p : ℕ) → A.refusal_count links.new p + open_at slots.new p ≤ A.refusal_count links.old p + open_at slots.old p }
     ensures apart { AreApart slots.old → AreApart slots.new }

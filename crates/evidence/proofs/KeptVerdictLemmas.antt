@@ -3,8 +3,9 @@ use Rattle.std.proofs.Common.{◌≡◌, ℕ, ◌-◌, ◌≤◌, inl, inr, Bool
 use Rattle.std.specs.Prelude.{max, replicate, Option, None, Some, IfSome, MatchOption, Result, Ok, Err, IfOk}
 use Rattle.std.proofs.Math.Nat.{le-max_left}
 use Rattle.std.proofs.lemmas.List.{length-replicate}
-use Rattle.dimacs.specs.logic.Cnf.{Cnf, IsFormula, Sat, assignment_of}
+use Rattle.dimacs.specs.logic.Cnf.{Cnf, FitsIn, Sat, assignment_of}
 use Rattle.dimacs.specs.logic.Extension.{extended}
+use Rattle.dimacs.specs.logic.Limits.{written}
 use Rattle.lrat_text.specs.Proof.{Accepts}
 use Rattle.lrat_check.specs.Verdicts.{Right}
 use Rattle.lrat_check.specs.declared.verdict.Verdict.{Verdict}
@@ -36,13 +37,13 @@ once F x text other s t same one two =
     renumbered_once (length F.clauses) (length x.clauses) text s t one (subst (λ (w : List ℕ). IsTextIn F x w t) same two)
 
 -- a proof by reverse unit propagation alone is kept
-pub rup_kept : (F x : Cnf) (text kept : List ℕ) (new : Verdict) → RefutesByRup F text → IsTextIn F x text kept → KeptVerdict F x (Proof text) new → new ≡ Proof kept
-rup_kept F x text kept new r h (KeptVerdict.nothing e n) = absurd (not_nothing text e)
-rup_kept F x text kept new r h (KeptVerdict.model_kept values e sat n) = absurd (not_model text values e)
-rup_kept F x text kept new r h (KeptVerdict.model_dropped values e sat n) = absurd (not_model text values e)
-rup_kept F x text kept new r h (KeptVerdict.proof_kept other found e g ok n) = n ∙ ap (λ (t : List ℕ). Proof t) (sym (once F x text other kept found (sym (same_text text other e)) h g))
-rup_kept F x text kept new r h (KeptVerdict.proof_dropped other e none n) =
-    absurd (none kept (subst (λ (t : List ℕ). IsTextIn F x t kept) (same_text text other e) h) (renumbered_accepted F x text kept r h))
+pub rup_kept : (F x : Cnf) (text kept : List ℕ) (new : Verdict) → F.vars ≤ 99999999 → RefutesByRup F text → IsTextIn F x text kept → KeptVerdict F x (Proof text) new → new ≡ Proof kept
+rup_kept F x text kept new vars r h (KeptVerdict.nothing e n) = absurd (not_nothing text e)
+rup_kept F x text kept new vars r h (KeptVerdict.model_kept values e sat n) = absurd (not_model text values e)
+rup_kept F x text kept new vars r h (KeptVerdict.model_dropped values e sat n) = absurd (not_model text values e)
+rup_kept F x text kept new vars r h (KeptVerdict.proof_kept other found e g ok n) = n ∙ ap (λ (t : List ℕ). Proof t) (sym (once F x text other kept found (sym (same_text text other e)) h g))
+rup_kept F x text kept new vars r h (KeptVerdict.proof_dropped other e none n) =
+    absurd (none kept (subst (λ (t : List ℕ). IsTextIn F x t kept) (same_text text other e) h) (renumbered_accepted F x text kept vars r h))
 
 pub long_enough : (vars : ℕ) (values : List Bool) → length values ≤ vars → length (lengthened vars values) ≡ vars
 long_enough vars values low =
@@ -152,8 +153,8 @@ of_text F x G old text m e (Err f) same grown o p h = tt
 of_text F x G old text m e (Ok kept) same grown o p h = subst (λ (v : Verdict). KeptVerdict F x v kept) (sym same) (h F x grown o p)
 
 -- what a machine learns from `grow`
-pub grown_is : (F x : Cnf) (held : Verdict) (o : Option Grown) (g : Grown) → o ≡ Some g → MatchOption o (¬ (IsFormula (extended F x))) (λ found. IsGrown F x held found) → IsGrown F x held g
-grown_is F x held o g is h = of_some (¬ (IsFormula (extended F x))) (λ found. IsGrown F x held found) o g is h
+pub grown_is : (F x : Cnf) (held : Verdict) (o : Option Grown) (g : Grown) → o ≡ Some g → MatchOption o (¬ (FitsIn written (extended F x))) (λ found. IsGrown F x held found) → IsGrown F x held g
+grown_is F x held o g is h = of_some (¬ (FitsIn written (extended F x))) (λ found. IsGrown F x held found) o g is h
 
 pub grown_right : (o : Option Grown) (g : Grown) → o ≡ Some g → IfSome o (λ found. Right found.formula found.verdict) → Right g.formula g.verdict
 grown_right o g is h = subst (λ (some : Option Grown). IfSome some (λ found. Right found.formula found.verdict)) is h

@@ -1,7 +1,8 @@
 -- What is kept of a verdict when clauses are added to its formula.
 use Rattle.std.specs.Prelude.{◌≡◌, ℕ, ◌-◌, Bool, false, List, ◌++◌, length, replicate}
-use Rattle.dimacs.specs.logic.Cnf.{Cnf, Sat, IsFormula, assignment_of}
+use Rattle.dimacs.specs.logic.Cnf.{Cnf, FitsIn, Sat, IsFormula, assignment_of}
 use Rattle.dimacs.specs.logic.Extension.{extended}
+use Rattle.dimacs.specs.logic.Limits.{written}
 use Rattle.lrat_text.specs.Proof.{Accepts}
 use Rattle.lrat_check.specs.declared.verdict.Reaction.{Reaction}
 use Rattle.lrat_check.specs.declared.verdict.Reaction.TheVariants as reaction
@@ -22,7 +23,8 @@ values_in F x values = lengthened (extended F x).vars values
 abbrev pub IsTextIn : Cnf → Cnf → List ℕ → List ℕ → Type 0
 IsTextIn F x text new = Renumbers (length F.clauses) (length x.clauses) text new
 
--- `new` is what is kept of the verdict `old` on F, for F extended by x: its assignment or proof, adapted, if that is right there; else none.
+-- `new` is what is kept of the verdict `old` on F, for F extended by x: its assignment or proof, adapted, if that is right there; else
+-- none.
 pub data KeptVerdict (F x : Cnf) (old new : Verdict) : Type 0 where
   nothing : old ≡ Nothing → new ≡ Nothing → KeptVerdict F x old new
   -- the assignment, with false for the new variables, satisfies the extended formula
@@ -32,10 +34,11 @@ pub data KeptVerdict (F x : Cnf) (old new : Verdict) : Type 0 where
   proof_kept : (text kept : List ℕ) → old ≡ Proof text → IsTextIn F x text kept → Accepts (extended F x) kept → new ≡ Proof kept → KeptVerdict F x old new
   proof_dropped : (text : List ℕ) → old ≡ Proof text → ((kept : List ℕ) → IsTextIn F x text kept → ¬ (Accepts (extended F x) kept)) → new ≡ Nothing → KeptVerdict F x old new
 
--- `new` has the extended formula, which is within the limits, and what is kept of the verdict `old`
+-- `new` has the extended formula, which is within the written limits, and what is kept of the verdict `old`
 pub record IsGrown (F x : Cnf) (old : Verdict) (new : Grown) : Type 0 where
   pub formula : new.formula ≡ extended F x
   pub limits : IsFormula (extended F x)
+  pub fits : FitsIn written (extended F x)
   pub stays : KeptVerdict F x old new.verdict
 
 -- a machine's formula after a call that adds the clauses of x: extended by them if the call returned `Taken`, else unchanged

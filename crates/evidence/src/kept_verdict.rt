@@ -1,8 +1,9 @@
 //! What is kept of a verdict when clauses are added to its formula.
 
 ghost use Rattle.std.specs.Prelude.{◌≡◌, ◌≤◌, ℕ, List, length, IfOk, IfSome, MatchOption, OnErr};
-ghost use Rattle.dimacs.specs.logic.Cnf.{Cnf, IsFormula};
+ghost use Rattle.dimacs.specs.logic.Cnf.{Cnf, FitsIn};
 ghost use Rattle.dimacs.specs.logic.Extension.{extended};
+ghost use Rattle.dimacs.specs.logic.Limits.{written};
 ghost use Rattle.lrat_check.specs.Verdicts.{Right};
 ghost use Rattle.lrat_check.specs.declared.verdict.Verdict.TheVariants.{Model, Proof};
 ghost use Rattle.proof_join.specs.RenumberedProof.{Renumbers};
@@ -23,7 +24,7 @@ pub struct Grown {
 }
 
 /// Returns the formula with these clauses after its own, and what is kept of `verdict`, which is right for the formula without them; `None`
-/// if the longer formula would exceed a limit.
+/// if the longer formula would exceed a written limit.
 ///
 /// An assignment is extended by false for the new variables, and kept if and only if it satisfies the longer formula. A proof is
 /// renumbered, and kept if and only if it is accepted for the longer formula. A proof by reverse unit propagation alone is always
@@ -36,11 +37,11 @@ pub fn grow(
 ) -> Result<Option<Grown>, AllocError>
     requires { Right formula.now verdict.now }
     ensures kept { IfOk result (λ found. MatchOption found
-        (¬ (IsFormula (extended formula.now extension.now)))
+        (¬ (FitsIn written (extended formula.now extension.now)))
         (λ grown. IsGrown formula.now extension.now verdict.now grown)) }
     ensures right { IfOk result (λ found. IfSome found (λ grown. Right grown.formula grown.verdict)) }
-    // memory is refused only if the longer formula is within the limits
-    ensures limits { OnErr result (IsFormula (extended formula.now extension.now)) }
+    // memory is refused only if the longer formula is within the written limits
+    ensures limits { OnErr result (FitsIn written (extended formula.now extension.now)) }
 {
     let Some(grown) = formula.extended(alloc, extension)? else {
         return Ok(None);
@@ -88,7 +89,7 @@ fn keep_values(alloc: Global, formula: &Formula, values: &Assignment) -> Result<
     }
 }
 
-/// Returns these values, and false for each further variable up to `vars`.
+/// Returns these truth values, and false for each further variable up to `vars`.
 fn lengthen(alloc: Global, values: &[bool], vars: usize) -> Result<Vec<bool>, AllocError>
     requires { length values.now ≤ vars }
     ensures { IfOk result (λ longer. longer.items ≡ lengthened vars values.now) }

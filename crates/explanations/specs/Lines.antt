@@ -1,4 +1,4 @@
--- What a line of a report tells.
+-- The lines of a report that say what is wrong.
 use Rattle.std.specs.Prelude.{◌==◌, ◌≡◌, ℕ, ◌+◌, List, codes}
 use Rattle.std.specs.List.{before_first, after_first}
 use Rattle.core.specs.Str.Parse.{digits_value, without_leading_plus}
@@ -10,30 +10,31 @@ use Rattle.explanations.specs.declared.lines.Fault.{Fault}
 use Rattle.explanations.specs.declared.other_lines.Other.{Other}
 use Rattle.explanations.specs.declared.other_lines.Other.TheVariants.{Usage, InputUnread, CubesUnread, ProofUnread, AnswerUnread, OtherFormula, CubesAboveLimit, NoLeaf, NoSplit, LeafAboveLimit, NoLinks, ProofUnwritten, NoMemory}
 
--- the first word of a text, and what stands after the space that ends it
+-- the first word of a text: the bytes before the first space
 abbrev pub first_word : List ℕ → List ℕ
 first_word text = before_first (λ byte. byte == 32) text
 
+-- the text after its first word and the space that ends it
 abbrev pub behind_word : List ℕ → List ℕ
 behind_word text = after_first (λ byte. byte == 32) text
 
--- a word spells a number
+-- a word spells this number
 abbrev pub IsSpelled : ℕ → List ℕ → Type 0
 IsSpelled number word = number ≡ digits_value 10 (without_leading_plus word)
 
--- what is counted
+-- the word of a unit
 abbrev pub unit_word : Unit → List ℕ
 unit_word Line = codes "line"
 unit_word Step = codes "step"
 
--- where a fault is, and its number, as `line L fault N`
+-- a text has the place of a fault and its number, as `line L fault N` or `step K fault N`
 pub record IsPlace (fault : Fault) (text : List ℕ) : Type 0 where
   pub unit : first_word text ≡ unit_word fault.unit
   pub at : IsSpelled fault.at (first_word (behind_word text))
   pub mark : first_word (behind_word (behind_word text)) ≡ codes "fault"
   pub number : IsSpelled fault.number (first_word (behind_word (behind_word (behind_word text))))
 
--- which file has it
+-- a text, after its `c`, names this file and has the place of the fault
 abbrev pub IsOf : File → Fault → List ℕ → Type 0
 IsOf Own fault text = IsPlace fault text
 IsOf Input fault text = (first_word text ≡ codes "input") × IsPlace fault (behind_word text)
@@ -43,18 +44,18 @@ IsOf Log fault text = (first_word text ≡ codes "log") × IsPlace fault (behind
 IsOf (Joined number) fault text =
     (first_word text ≡ codes "file") × IsSpelled number (first_word (behind_word text)) × IsPlace fault (behind_word (behind_word text))
 
--- the line of a fault: `c line L fault N`, `c input line L fault N`, `c file K step L fault N NAME` and their like
+-- a line has a fault: `c line L fault N`, `c input line L fault N`, `c file K step L fault N NAME`, and others like these
 abbrev pub IsFault : Fault → List ℕ → Type 0
 IsFault fault line = (first_word line ≡ codes "c") × IsOf fault.file fault (behind_word line)
 
--- the line of the file of this number that cannot be read: `c file K cannot be read NAME`
+-- a line names the file of this number, which cannot be read: `c file K cannot be read NAME`
 pub record IsUnread (number : ℕ) (line : List ℕ) : Type 0 where
   pub mark : first_word line ≡ codes "c"
   pub file : first_word (behind_word line) ≡ codes "file"
   pub place : IsSpelled number (first_word (behind_word (behind_word line)))
   pub cannot : first_word (behind_word (behind_word (behind_word line))) ≡ codes "cannot"
 
--- another line
+-- the line without a fault number of this kind
 abbrev pub line_of : Other → List ℕ
 line_of Usage = codes "c usage"
 line_of InputUnread = codes "c cannot read input"

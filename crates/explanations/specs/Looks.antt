@@ -1,4 +1,4 @@
--- What a file is, by its first bytes and by the line that has the fault.
+-- The kind of a file that was named as another one, by its first bytes and by the line that has the fault.
 use Rattle.std.specs.Prelude.{◌==◌, ℕ, ◌+◌, Bool, true, false, ◌&&◌, ◌||◌, List, [], ◌∷◌, Option, None, Some, drop, is_some, is_none, nat_eq, codes, if◌then◌else◌}
 use Rattle.std.specs.Cmp.Lexicographic.{pointwise}
 use Rattle.std.specs.List.{starts_with, ends_with, list_all, list_any}
@@ -10,15 +10,15 @@ use Rattle.explanations.specs.declared.table.Subject.TheVariants.{Input, Proof, 
 use Rattle.explanations.specs.declared.looks.Look.{Look}
 use Rattle.explanations.specs.declared.looks.Look.TheVariants.{Gzip, Xz, Zstd, Bzip2, ByteOrderMark, Utf16, Program, WebPage, MaxSat, Icnf, Clauses, BinaryProof, Binary, BinaryDrat, BinaryFrat, Drat, Frat, VeriPb, LineEnds, Comments}
 
--- a text begins with these bytes
+-- whether a text begins with these bytes
 abbrev pub begins : List ℕ → List ℕ → Bool
 begins text bytes = starts_with nat_eq text bytes
 
--- a text ends with these bytes
+-- whether a text ends with these bytes
 abbrev pub ends : List ℕ → List ℕ → Bool
 ends text bytes = ends_with nat_eq text bytes
 
--- by what a file is packed
+-- the packing of a file, by its first bytes; none if it is none of the four
 abbrev pub packing : List ℕ → Option Look
 packing head =
     if begins head (31 ∷ 139 ∷ []) then Some Gzip
@@ -27,7 +27,7 @@ packing head =
     else if begins head (codes "BZh") then Some Bzip2
     else None
 
--- what a file is by its first bytes, whatever was wanted
+-- the kind of a file that its first bytes name, whatever was wanted; none if they name none
 abbrev pub mark : List ℕ → Option Look
 mark head =
     if begins head (239 ∷ 187 ∷ 191 ∷ []) then Some ByteOrderMark
@@ -36,12 +36,12 @@ mark head =
     else if begins head (codes "<") then Some WebPage
     else packing head
 
--- a line begins with a number
+-- whether a line begins with a number
 abbrev pub begins_with_number : List ℕ → Bool
 begins_with_number [] = false
 begins_with_number (byte ∷ line) = (byte == 45) || is_ascii_digit byte
 
--- what is read as a formula
+-- the kind of a file that was named as a formula, by the line that has the fault
 abbrev pub formula_look : List ℕ → Option Look
 formula_look line =
     if begins line (codes "p wcnf") then Some MaxSat
@@ -49,36 +49,36 @@ formula_look line =
     else if begins_with_number line then Some Clauses
     else None
 
--- what stands after the first byte 00
+-- the bytes after the first byte 00; none if there is none
 abbrev pub after_zero_lem : List ℕ → Option (List ℕ)
 after_zero_lem bytes = option_map (λ end. drop (end + 1) bytes) (first_of (places (is_byte 0) bytes))
 
--- what stands after the first step of a binary DRAT proof: `a` or `d`, numbers, and 00
+-- the bytes after the first step of a binary DRAT proof: `a` or `d`, numbers, and 00; no bytes are after no bytes
 abbrev pub after_step_lem : List ℕ → Option (List ℕ)
 after_step_lem [] = Some []
 after_step_lem (letter ∷ bytes) = if (letter == 97) || (letter == 100) then after_zero_lem (letter ∷ bytes) else None
 
--- and after three steps
+-- the bytes after the first three steps of a binary DRAT proof
 abbrev pub after_three_steps_lem : List ℕ → Option (List ℕ)
 after_three_steps_lem bytes = option_and_then after_step_lem (option_and_then after_step_lem (after_step_lem bytes))
 
--- a byte of a list of numbers
+-- whether a byte may occur in a list of numbers
 abbrev pub is_of_numbers_lem : ℕ → Bool
 is_of_numbers_lem byte = (byte == 32) || (byte == 45) || is_ascii_digit byte
 
--- no number 0 stands between two others
+-- whether a line has no number 0 between two others
 abbrev pub lacks_inner_zero_lem : List ℕ → Bool
 lacks_inner_zero_lem line = is_none (first_of (matches line (codes " 0 ") 0))
 
--- the last number of a line is 0
+-- whether the last number of a line is 0
 abbrev pub ends_with_zero_lem : List ℕ → Bool
 ends_with_zero_lem line = pointwise nat_eq line (codes "0") || ends line (codes " 0")
 
--- a line of a DRAT proof that adds a clause: numbers, of which the last one alone is 0
+-- whether a line is one of a DRAT proof that adds a clause: numbers, of which the last one alone is 0
 abbrev pub is_drat_line_lem : List ℕ → Bool
 is_drat_line_lem line = list_all is_of_numbers_lem line && ends_with_zero_lem line && lacks_inner_zero_lem line
 
--- what is read as a proof in binary form
+-- the kind of a file that was named as a proof and begins as one in binary form
 abbrev pub binary_look : List ℕ → List ℕ → Option Look
 binary_look head line =
     if is_some (after_three_steps_lem head) then Some BinaryDrat
@@ -86,7 +86,7 @@ binary_look head line =
     else if begins line (codes "a ") then Some Frat
     else None
 
--- what is read as a proof in text form
+-- the kind of a file that was named as a proof and begins as one in text form
 abbrev pub text_look : List ℕ → Option Look
 text_look line =
     if ends line (13 ∷ []) then Some LineEnds
@@ -97,24 +97,24 @@ text_look line =
     else if is_drat_line_lem line then Some Drat
     else None
 
--- what is read as an LRAT proof: in binary form if its first byte is `a` or `d`
+-- the kind of a file that was named as an LRAT proof: in binary form if its first byte is `a` or `d`
 abbrev pub proof_look : List ℕ → List ℕ → Option Look
 proof_look head line =
     if begins head (codes "a") || begins head (codes "d") then binary_look head line
     else text_look line
 
--- what is read as a LIDRUP text
+-- the kind of a file that was named as a LIDRUP text
 abbrev pub session_look : List ℕ → List ℕ → Option Look
 session_look head line =
     if list_any (λ byte. byte == 0) head then Some Binary
     else if ends line (13 ∷ []) then Some LineEnds
     else None
 
--- what is read as something else, in which no byte is 0
+-- the kind of a file that was named as a text in which no byte is 0; `other` if it has none
 abbrev pub other_look : List ℕ → Option Look → Option Look
 other_look head other = if list_any (λ byte. byte == 0) head then Some BinaryProof else other
 
--- what a file is that was named as another one
+-- the kind of a file that was named as this subject, if its first bytes alone do not name it
 abbrev pub look_as : Subject → List ℕ → List ℕ → Option Look
 look_as Proof head line = proof_look head line
 look_as Session head line = session_look head line
@@ -123,11 +123,11 @@ look_as Cubes head line = other_look head None
 look_as Answer head line = other_look head None
 look_as Events head line = other_look head None
 
--- the first of both that is there
+-- the first of two kinds that is there
 abbrev pub first_look : Option Look → Option Look → Option Look
 first_look None other = other
 first_look (Some look) other = Some look
 
--- what tells first decides: the first bytes, whatever was wanted, and then what was
+-- the kind of a file that was named as this subject: its first bytes decide first, whatever was wanted, and then its lines
 abbrev pub look : Subject → List ℕ → List ℕ → Option Look
 look subject head line = first_look (mark head) (look_as subject head line)

@@ -1,13 +1,13 @@
--- Which numbers faults have.
+-- The numbers of faults, by what a file is read as.
 use Rattle.std.specs.Prelude.{ℕ, ◌≤◌, ◌≡◌, ◌⊎◌}
 use Rattle.explanations.specs.declared.table.Subject.{Subject}
 use Rattle.explanations.specs.declared.table.Subject.TheVariants.{Input, Proof, Cubes, Answer, Events, Session}
 
--- the number is between these
+-- a number's property: it is from low to high
 abbrev pub IsFromTo : ℕ → ℕ → ℕ → Type 0
 IsFromTo low high number = (low ≤ number) × (number ≤ high)
 
--- the number is that of a fault which a file can have that is read as this
+-- a number's property: a file that is read as this can have a fault of this number
 abbrev pub HasNumber : Subject → ℕ → Type 0
 HasNumber Input number = IsFromTo 1 9 number
 HasNumber Proof number = IsFromTo 1 17 number

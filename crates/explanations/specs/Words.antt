@@ -1,8 +1,8 @@
--- By which words a command runs.
+-- The words by which a command runs: those of a command line without `--explain`.
 use Rattle.std.specs.Prelude.{ℕ, Bool, true, false, List, [], ◌∷◌, nat_eq, codes, if◌then◌else◌}
 use Rattle.std.specs.Cmp.Lexicographic.{pointwise}
 
--- two words are the same
+-- whether two words are the same
 abbrev pub same : List ℕ → List ℕ → Bool
 same word other = pointwise nat_eq word other
 
@@ -14,7 +14,7 @@ without_explain (word ∷ words) =
     else if same word (codes "--") then word ∷ words
     else word ∷ without_explain words
 
--- whether `--explain` is among them, before any `--`
+-- whether `--explain` is among the words, before any `--`
 abbrev pub asks_for_explain : List (List ℕ) → Bool
 asks_for_explain [] = false
 asks_for_explain (word ∷ words) =

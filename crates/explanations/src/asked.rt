@@ -5,15 +5,18 @@ ghost use Rattle.explanations.specs.Words.{asks_for_explain, without_explain};
 
 use std::alloc::{AllocError, Global};
 
-/// The words by which a command runs, and whether it is to explain itself.
+/// A command line: the words by which the command runs, and whether it is to explain its report.
 #[derive(Drop)]
 pub struct Asked<'a> {
+    /// All words except `--explain`, in their order.
     pub words: Vec<&'a str>,
+    /// Whether `--explain` is among the words, before any `--`.
     pub explains: bool,
 }
 
 impl<'a> Asked<'a> {
-    /// Takes `--explain` out of the words. It is a word of every command, wherever it stands before `--`.
+    /// Takes `--explain` out of the words of the command line, and notes whether it was there.
+    /// Every command has this word, anywhere before `--`.
     pub fn of(alloc: Global, words: &'a [String]) -> Result<Asked<'a>, AllocError>
         ensures words { IfOk result (λ asked. map (λ w. w.now) asked.words.items ≡ without_explain (map string_bytes words.now)) }
         ensures explains { IfOk result (λ asked. asked.explains ≡ asks_for_explain (map string_bytes words.now)) }

@@ -1,8 +1,8 @@
-//! What the lines of a report mean, in words: what is wrong, where, and what to do.
+//! Explanations: what the lines of a report mean, in words: what is wrong, where, and what to do.
 //!
-//! No answer rests on any of it. What a layer above may rest on: each number that a fault can have has a sentence, and no other number has;
-//! what a file is said to be follows from its first bytes and from one line by a written definition; and the words of a command
-//! line without `--explain` are all others, in their order.
+//! No answer of the program rests on an explanation. What a layer above may rest on: each number that a fault can have has a sentence, and
+//! no other number has; the kind of a file follows from its first bytes and from one line by a written definition; and the words of a
+//! command line without `--explain` are all others, in their order.
 #![tactic(auto)]
 
 mod asked;
@@ -21,4 +21,4 @@ pub use names::{in_command, shown};
 pub use other_lines::Other;
 pub use reasons::Reason;
 pub use sentences::Told;
-pub use table::{Subject, fault};
+pub use table::{Subject, explain_fault};

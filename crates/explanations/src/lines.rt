@@ -1,10 +1,10 @@
-//! The line of a report that tells a fault of a file.
+//! The fault of a file, read from a line of a report.
 
 ghost use Rattle.std.specs.Prelude.{◌≡◌, IfSome, codes, nat_eq};
 ghost use Rattle.std.specs.List.{starts_with};
 ghost use Rattle.explanations.specs.Lines.{IsFault, IsPlace, IsSpelled, IsUnread, behind_word, first_word, unit_word};
 
-/// Which file has a fault.
+/// The file that has a fault.
 #[derive(Clone, Copy)]
 pub enum File {
     /// The file that the command checks: a proof or an answer.
@@ -21,7 +21,7 @@ pub enum File {
     Joined(u64),
 }
 
-/// What is counted up to a fault.
+/// The unit in which a fault's place is counted.
 #[derive(Clone, Copy)]
 pub enum Unit {
     /// Lines of a text.
@@ -30,17 +30,20 @@ pub enum Unit {
     Step,
 }
 
-/// The fault of a file.
+/// The fault of a file, as a line of a report has it.
 #[derive(Clone, Copy)]
 pub struct Fault {
+    /// The file that has the fault.
     pub file: File,
+    /// The unit in which `at` is counted.
     pub unit: Unit,
     /// The line or the step, from 1; 0 if there is none.
     pub at: u64,
+    /// The number of the fault.
     pub number: u64,
 }
 
-/// The first word of a text, and what stands after the space that ends it.
+/// Cuts a text at its first space. Returns the word before it, and the text after it, which is empty if there is no space.
 fn cut_word(text: &str) -> (&str, &str)
     ensures word { result.0.now ≡ first_word text.now }
     ensures rest { result.1.now ≡ behind_word text.now }
@@ -51,13 +54,14 @@ fn cut_word(text: &str) -> (&str, &str)
     }
 }
 
-/// The number that a word spells.
+/// The number that a word spells; None if it spells none below 2^64.
 fn number_of(word: &str) -> Option<u64>
     ensures { IfSome result (λ n. IsSpelled n word.now) }
 {
     word.parse::<u64>().ok()
 }
 
+/// The unit of a word; None if it is neither `line` nor `step`.
 fn unit_of(word: &str) -> Option<Unit>
     ensures { IfSome result (λ u. word.now ≡ unit_word u) }
 {
@@ -68,7 +72,7 @@ fn unit_of(word: &str) -> Option<Unit>
     }
 }
 
-/// Where the fault of a file is, and its number.
+/// The fault of a file that a text has as `line L fault N` or `step K fault N`; None if it has none.
 fn fault_at(file: File, text: &str) -> Option<Fault>
     ensures place { IfSome result (λ f. IsPlace f text.now) }
     ensures file { IfSome result (λ f. f.file ≡ file) }
@@ -92,7 +96,8 @@ fn fault_at(file: File, text: &str) -> Option<Fault>
 }
 
 impl Fault {
-    /// The fault that a line tells: its file, where it is, and its number. None is found in a line of another kind.
+    /// Reads the fault from a line of a report: its file, its place, and its number; None if it is
+    /// a line of another kind.
     pub fn of(line: &str) -> Option<Fault>
         ensures { IfSome result (λ f. IsFault f line.now) }
     {
@@ -115,7 +120,7 @@ impl Fault {
     }
 }
 
-/// The number of the file that cannot be read, if a line tells one.
+/// The number of the file that cannot be read, from a line `c file K cannot be read NAME`; None if it is a line of another kind.
 pub fn unread_number(line: &str) -> Option<u64>
     ensures { IfSome result (λ n. IsUnread n line.now) }
 {
@@ -129,7 +134,7 @@ pub fn unread_number(line: &str) -> Option<u64>
     number_of(number)
 }
 
-/// Whether a line tells a clause of which an answer names no literal.
+/// Whether a line names a clause of which an answer has no literal.
 pub fn is_of_clause(line: &str) -> bool
     ensures { result ≡ starts_with nat_eq line.now (codes "c clause ") }
 {

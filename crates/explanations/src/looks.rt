@@ -1,4 +1,5 @@
-//! The kind of a file, by its first bytes (as `file` tells) and by the line that has the fault; and how to convert it to the wanted kind.
+//! The kind of a file that was named as another one, by its first bytes (as `file` finds it) and by the line that has the fault; and how to
+//! convert it to the wanted kind.
 
 ghost use Rattle.std.specs.Prelude.{◌≡◌};
 ghost use Rattle.std.specs.List.{list_all};
@@ -12,13 +13,13 @@ use memchr::{memchr, memmem};
 /// The kind of a file that is not of the wanted kind.
 #[derive(Clone, Copy)]
 pub enum Look {
-    /// Packed by gzip.
+    /// A file packed by gzip.
     Gzip,
-    /// Packed by xz.
+    /// A file packed by xz.
     Xz,
-    /// Packed by zstd.
+    /// A file packed by zstd.
     Zstd,
-    /// Packed by bzip2.
+    /// A file packed by bzip2.
     Bzip2,
     /// A text after a byte order mark.
     ByteOrderMark,
@@ -34,9 +35,9 @@ pub enum Look {
     Icnf,
     /// Clauses without a header.
     Clauses,
-    /// A proof in binary form, in the place of another file.
+    /// A proof in binary form, named as another file.
     BinaryProof,
-    /// A binary file, where a text is wanted.
+    /// A binary file, named as a text.
     Binary,
     /// A DRAT proof in binary form.
     BinaryDrat,
@@ -55,7 +56,7 @@ pub enum Look {
 }
 
 impl Look {
-    /// What it is, and what to do.
+    /// The two sentences for a kind of file: what the file is, and what to do.
     pub fn told(self) -> Told {
         let (sentence, remedy) = match self {
             Look::Gzip => ("It is packed by gzip.", "`gzip -dc FILE > NEW`"),
@@ -119,7 +120,7 @@ impl Look {
     }
 }
 
-/// By what a file is packed, by its first bytes.
+/// The packing of a file, by its first bytes; None if it is none of the four.
 fn packing_of(head: &[u8]) -> Option<Look>
     ensures { result ≡ packing head.now }
 {
@@ -138,7 +139,7 @@ fn packing_of(head: &[u8]) -> Option<Look>
     None
 }
 
-/// What a file is by its first bytes, whatever was wanted.
+/// The kind of a file that its first bytes name, whatever was wanted; None if they name none.
 fn mark_of(head: &[u8]) -> Option<Look>
     ensures { result ≡ mark head.now }
 {
@@ -157,7 +158,7 @@ fn mark_of(head: &[u8]) -> Option<Look>
     packing_of(head)
 }
 
-/// What is read as a formula, by the line that has the fault.
+/// The kind of a file that was named as a formula, by the line that has the fault; None if the line does not show it.
 fn formula_look_of(line: &[u8]) -> Option<Look>
     ensures { result ≡ formula_look line.now }
 {
@@ -173,7 +174,7 @@ fn formula_look_of(line: &[u8]) -> Option<Look>
     }
 }
 
-/// What stands after the first byte 00.
+/// The bytes after the first byte 00, which ends a step in binary form; None if there is none.
 fn after_zero(bytes: &[u8]) -> Option<&[u8]>
     ensures { option_copied result ≡ after_zero_lem bytes.now }
 {
@@ -186,7 +187,8 @@ fn after_zero(bytes: &[u8]) -> Option<&[u8]>
     }
 }
 
-/// What stands after the first step of a binary DRAT proof: a letter, numbers, and 00. Nothing stands after nothing.
+/// The bytes after the first step of a binary DRAT proof: a letter, numbers, and 00. None if they begin with no such step; no bytes are
+/// after no bytes.
 fn after_step(bytes: &[u8]) -> Option<&[u8]>
     ensures { option_copied result ≡ after_step_lem bytes.now }
 {
@@ -197,7 +199,8 @@ fn after_step(bytes: &[u8]) -> Option<&[u8]>
     }
 }
 
-/// What stands after three steps.
+/// The bytes after the first three steps of a binary DRAT proof; None if they do not begin with
+/// three. Three in a row are hardly chance.
 fn after_three_steps(bytes: &[u8]) -> Option<&[u8]>
     ensures { option_copied result ≡ after_three_steps_lem bytes.now }
 {
@@ -206,14 +209,14 @@ fn after_three_steps(bytes: &[u8]) -> Option<&[u8]>
     after_step(third)
 }
 
-/// Whether a byte stands in a list of numbers.
+/// Whether a byte may occur in a list of numbers: a digit, a minus or a space.
 fn is_of_numbers(byte: u8) -> bool
     ensures { result ≡ is_of_numbers_lem byte }
 {
     byte == b' ' || byte == b'-' || byte.is_ascii_digit()
 }
 
-/// Whether no number 0 stands between two others.
+/// Whether a line has no number 0 between two others: LRAT has one, which ends the literals.
 fn lacks_inner_zero(line: &[u8]) -> bool
     ensures { result ≡ lacks_inner_zero_lem line.now }
 {
@@ -223,7 +226,7 @@ fn lacks_inner_zero(line: &[u8]) -> bool
     }
 }
 
-/// Whether a line has numbers alone.
+/// Whether a line has no bytes except those of a list of numbers.
 fn has_numbers_alone(line: &[u8]) -> bool
     ensures { result ≡ list_all is_of_numbers_lem line.now }
 {
@@ -237,14 +240,15 @@ fn ends_with_zero(line: &[u8]) -> bool
     line == b"0".as_slice() || line.ends_with(b" 0")
 }
 
-/// Whether a line is one list of numbers that ends with 0, as DRAT has them; a line of LRAT has two.
+/// Whether a line is one list of numbers that ends with 0, as the lines of DRAT are; a line of LRAT has two.
 fn is_drat_line(line: &[u8]) -> bool
     ensures { result ≡ is_drat_line_lem line.now }
 {
     has_numbers_alone(line) && ends_with_zero(line) && lacks_inner_zero(line)
 }
 
-/// What is read as a proof in binary form, by its first bytes and its first line.
+/// The kind of a file that was named as a proof and begins as one in binary form, by its first bytes and its first line; None if they do
+/// not show it.
 fn binary_look_of(head: &[u8], line: &[u8]) -> Option<Look>
     ensures { result ≡ binary_look head.now line.now }
 {
@@ -260,7 +264,8 @@ fn binary_look_of(head: &[u8], line: &[u8]) -> Option<Look>
     None
 }
 
-/// What is read as a proof in text form, by the line that has the fault.
+/// The kind of a file that was named as a proof and begins as one in text form, by the line that has the fault; None if the line does not
+/// show it.
 fn text_look_of(line: &[u8]) -> Option<Look>
     ensures { result ≡ text_look line.now }
 {
@@ -285,7 +290,7 @@ fn text_look_of(line: &[u8]) -> Option<Look>
     None
 }
 
-/// What is read as an LRAT proof.
+/// The kind of a file that was named as an LRAT proof; None if nothing shows it.
 fn proof_look_of(head: &[u8], line: &[u8]) -> Option<Look>
     ensures { result ≡ proof_look head.now line.now }
 {
@@ -296,7 +301,7 @@ fn proof_look_of(head: &[u8], line: &[u8]) -> Option<Look>
     }
 }
 
-/// What is read as a LIDRUP text.
+/// The kind of a file that was named as a LIDRUP text; None if nothing shows it.
 fn session_look_of(head: &[u8], line: &[u8]) -> Option<Look>
     ensures { result ≡ session_look head.now line.now }
 {
@@ -309,8 +314,8 @@ fn session_look_of(head: &[u8], line: &[u8]) -> Option<Look>
     None
 }
 
-/// What a file is that was named as another one: by its first bytes, and by the line that has the fault, or by its first line if it has no
-/// lines. None if nothing tells.
+/// The kind of a file that was named as `subject`: by its first bytes, and by the line that has the fault, or by its first line if it has
+/// no lines. None if nothing shows it.
 pub fn look_of(subject: Subject, head: &[u8], line: &[u8]) -> Option<Look>
     ensures { result ≡ look subject head.now line.now }
 {

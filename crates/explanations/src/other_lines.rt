@@ -1,4 +1,4 @@
-//! The other lines of a report that tell what is wrong.
+//! The other lines of a report that say what is wrong.
 
 ghost use Rattle.std.specs.Prelude.{◌≡◌, ◌≢◌, IfNone, IfSome};
 ghost use Rattle.explanations.specs.Lines.{line_of};
@@ -6,7 +6,7 @@ ghost use Rattle.explanations.specs.declared.other_lines.Other.{Other};
 
 use crate::sentences::{MEMORY, Told};
 
-/// The kind of a line that tells what is wrong and has no fault number.
+/// A line that says what is wrong and has no fault number.
 #[derive(Clone, Copy)]
 pub enum Other {
     /// The words are refused.
@@ -33,12 +33,12 @@ pub enum Other {
     NoLinks,
     /// A file cannot be written.
     ProofUnwritten,
-    /// A growth was refused.
+    /// Memory was refused.
     NoMemory,
 }
 
 impl Other {
-    /// The line's kind. None is found for a line that is told by another table, or by none.
+    /// The kind of this line; None if it is a line of another table, or of none.
     pub fn of(line: &str) -> Option<Other>
         ensures found { IfSome result (λ other. line.now ≡ line_of other) }
         ensures none { IfNone result ((other : Other) → line.now ≢ line_of other) }
@@ -61,7 +61,7 @@ impl Other {
         }
     }
 
-    /// What it means, and what to do.
+    /// The two sentences for a line: what it means, and what to do.
     pub fn told(self) -> Told {
         let (sentence, remedy) = match self {
             Other::Usage => (
@@ -96,7 +96,7 @@ impl Other {
             ),
             Other::LeafAboveLimit => (
                 "The leaf's formula would be above the limits of a formula.",
-                "`satcluster refute` searches under it without printing it.",
+                "Name `--large`; or `satcluster refute` searches under it without printing it.",
             ),
             Other::NoLinks => (
                 "A port cannot be opened, or nobody listens at it.",

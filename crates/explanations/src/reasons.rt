@@ -1,50 +1,50 @@
-//! Why words are refused, and why a file cannot be read or written.
+//! The reasons why words are refused, and why a file cannot be read or written.
 
 use crate::sentences::Told;
 
-/// A reason. In its sentences `WORD` stands for the word, and `FILE` for the file.
+/// A reason. In its sentences, `WORD` stands for the refused word, and `FILE` for the file.
 #[derive(Clone, Copy)]
 pub enum Reason {
     /// There are no words.
     NoCommand,
     /// The first word is no command.
     OtherCommand,
-    /// A word that the command does not have.
+    /// The command does not have the word.
     OtherWord,
-    /// A word that the command has, in a wrong place or with a wrong value.
+    /// The command has the word, but not here, or not with this value.
     WrongWord,
-    /// A name too many.
+    /// There is one name too many.
     OtherName,
-    /// Each word can stand here, but not all of them.
+    /// The command has each of the words, but does not take them together.
     NotTogether,
-    /// `-` stands for standard input, which cannot be read here.
+    /// `-` is standard input, which cannot be read here.
     StandardInput,
-    /// Neither a leaf nor `--lidrup`; or one end of a block alone.
+    /// Neither a leaf nor `--lidrup` is named; or one end of a block of leaves alone.
     LeafOrLidrup,
     /// The file is not there.
     Absent,
-    /// It is a folder.
+    /// The file is a folder.
     Folder,
-    /// It may not be read.
+    /// The file may not be read.
     Forbidden,
-    /// It is a pipe or a device, whose bytes are gone.
+    /// The file is a pipe or a device, whose bytes are gone.
     Passing,
-    /// It is there, and cannot be read.
+    /// The file exists, and cannot be read.
     Broken,
-    /// The folder of a file that is to be written is not there.
+    /// The folder in which a file is to be written does not exist.
     NoFolder,
-    /// A folder is there.
+    /// The file to be written is a folder.
     InFolder,
-    /// A file that is read is there.
+    /// The file to be written is one that is read.
     Read,
-    /// It cannot be written.
+    /// The file cannot be written.
     Unwritten,
     /// The answer names no literal of a clause.
     NoLiteral,
 }
 
 impl Reason {
-    /// What it is, and what to do.
+    /// The two sentences for a reason: what is wrong, and what to do.
     pub fn told(self) -> Told {
         let (sentence, remedy) = match self {
             Reason::NoCommand => (

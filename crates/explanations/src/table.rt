@@ -8,7 +8,7 @@ ghost use Rattle.explanations.specs.declared.table.Subject.TheVariants.{Answer, 
 
 use crate::sentences::{MEMORY, Told, row};
 
-/// What a file is read as, which tells what its numbers mean.
+/// What a file is read as, on which the meaning of its fault numbers depends.
 #[derive(Clone, Copy)]
 pub enum Subject {
     /// A formula.
@@ -17,21 +17,24 @@ pub enum Subject {
     Proof,
     /// A splitting tree, or a list of cubes.
     Cubes,
-    /// What a solver has printed.
+    /// The output of a solver.
     Answer,
-    /// What was sent in a session.
+    /// The input of a session.
     Events,
     /// A LIDRUP text, the proof of a session.
     Session,
 }
 
+/// What to do if a proof is of another formula.
 const SAME: &str = "Run the solver again, on this very file.";
 
+/// What to do if a file ends too early.
 const CUT: &str = "The file was cut: make it anew.";
 
+/// What to do if the proof of a session is wrong.
 const WRONG: &str = "The proof is wrong: run the session again.";
 
-/// The faults of a formula.
+/// The sentences of a formula's faults; None for a number that no such fault has.
 fn of_input(number: u64) -> Option<Told>
     ensures { IsSome result ↔ HasNumber Input number }
 {
@@ -62,15 +65,15 @@ fn of_input(number: u64) -> Option<Told>
             "Put the number of clauses into the header.",
         ),
         8 => row(
-            "The formula is above the limits: 1,000,000 variables, 4,000,000 clauses, 50,000,000 literals.",
-            "The program takes no greater one; another solver may.",
+            "The formula is above the limits: 1,000,000 variables, 4,000,000 clauses, 50,000,000 literals; with `--large`, 99,999,999 variables and clauses, 999,999,999 literals.",
+            "Name `--large`, if the command takes that; another solver may take a greater one.",
         ),
         9 => row("There was not memory enough for the formula.", MEMORY),
         _ => None,
     }
 }
 
-/// The faults of an LRAT proof, or of a log.
+/// The sentences of the faults of an LRAT proof or a log; None for a number that no such fault has.
 fn of_proof(number: u64) -> Option<Told>
     ensures { IsSome result ↔ HasNumber Proof number }
 {
@@ -141,7 +144,7 @@ fn of_proof(number: u64) -> Option<Told>
     }
 }
 
-/// The faults of a splitting tree, or of a list of cubes.
+/// The sentences of the faults of a splitting tree or a list of cubes; None for a number that no such fault has.
 fn of_cubes(number: u64) -> Option<Told>
     ensures { IsSome result ↔ HasNumber Cubes number }
 {
@@ -188,7 +191,7 @@ fn of_cubes(number: u64) -> Option<Told>
     }
 }
 
-/// The faults of what a solver has printed.
+/// The sentences of the faults of a solver's output; None for a number that no such fault has.
 fn of_answer(number: u64) -> Option<Told>
     ensures { IsSome result ↔ HasNumber Answer number }
 {
@@ -218,7 +221,7 @@ fn of_answer(number: u64) -> Option<Told>
     }
 }
 
-/// The faults of what was sent in a session.
+/// The sentences of the faults of a session's input; None for a number that no such fault has.
 fn of_events(number: u64) -> Option<Told>
     ensures { IsSome result ↔ HasNumber Events number }
 {
@@ -240,15 +243,15 @@ fn of_events(number: u64) -> Option<Told>
             "One line is one event here, other than in a formula. If it is the last line, the file was cut.",
         ),
         8 => row(
-            "The events are above the limits: 1,000,000 variables, 4,000,000 clauses, 50,000,000 literals of clauses, 1,000,000 literals of a query.",
-            "The program takes no greater ones.",
+            "The events are above the limits: 1,000,000 variables, 4,000,000 clauses, 50,000,000 literals of clauses, 1,000,000 literals of a query; with `--large`, 99,999,999 variables, clauses and literals of a query, 999,999,999 literals of clauses.",
+            "Name `--large`.",
         ),
         9 => row("There was not memory enough for the events.", MEMORY),
         _ => None,
     }
 }
 
-/// The faults of a LIDRUP text.
+/// The sentences of the faults of a LIDRUP text; None for a number that no such fault has.
 fn of_session(number: u64) -> Option<Told>
     ensures { IsSome result ↔ HasNumber Session number }
 {
@@ -304,8 +307,8 @@ fn of_session(number: u64) -> Option<Told>
     }
 }
 
-/// What a fault of this number means in such a file, and what to do. There is no sentence for a number that is no fault of it.
-pub fn fault(subject: Subject, number: u64) -> Option<Told>
+/// The sentences of the fault of this number in a file that is read as `subject`; None if such a file has no fault of this number.
+pub fn explain_fault(subject: Subject, number: u64) -> Option<Told>
     ensures { IsSome result ↔ HasNumber subject number }
 {
     match subject {

@@ -1,4 +1,4 @@
--- Answers: how a worker's search ended, and what a verdict says.
+-- Answers: the end of a worker's search, and the answer of a verdict.
 use Rattle.std.specs.Prelude.{ℕ}
 use Rattle.frames.specs.declared.answer.Answer.{Answer}
 use Rattle.frames.specs.declared.answer.Answer.TheVariants as answers
@@ -10,7 +10,7 @@ abbrev pub answer_number : Answer → ℕ
 answer_number answers.Refuted = 1
 answer_number answers.Assignment = 2
 
--- which answer a finding has
+-- the answer of a finding
 abbrev pub answer_of : Finding → Answer
 answer_of (Refuted length) = answers.Refuted
 answer_of (Assignment length) = answers.Assignment

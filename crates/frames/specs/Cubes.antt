@@ -3,7 +3,7 @@ use Rattle.std.specs.Prelude.{ℕ, ◌≤◌, Bool, not, ◌&&◌, ◌==◌, nat
 use Rattle.std.specs.List.{IsDistinct, list_any}
 use Rattle.dimacs.specs.logic.Literal.{Literal, var_of, IsWithin}
 
--- at most 64 literals, of variables from 1 to 2,000,000, no variable twice
+-- a cube: at most 64 literals, of variables from 1 to 2,000,000, no variable twice
 pub record IsCube (literals : List Literal) : Type 0 where
   pub short : length literals ≤ 64
   pub within : All (IsWithin 2000000) literals
@@ -13,6 +13,6 @@ pub record IsCube (literals : List Literal) : Type 0 where
 abbrev pub names : ℕ → Literal → Bool
 names v l = var_of l == v
 
--- whether the literal may be appended to the cube
+-- whether a literal may be appended to the cube: it has fewer than 64 literals, and the literal's variable is at most 2,000,000 and new
 abbrev pub takes : List Literal → Literal → Bool
 takes literals l = nat_lt (length literals) 64 && (nat_le (var_of l) 2000000 && not (list_any (names (var_of l)) literals))

@@ -1,11 +1,11 @@
--- For which bytes a reader may ask for memory.
+-- The bytes for which a reader may ask for memory.
 use Rattle.std.specs.Prelude.{◌≡◌, ℕ, ◌+◌, ◌<◌, ◌≤◌, List, length}
 use Rattle.frames.specs.declared.frame.Kind.{Kind}
 use Rattle.frames.specs.declared.frame.Kind.TheVariants.{Task, Done, Fetch, Piece, Verdict, Want, Part, Idle, Rest}
 use Rattle.frames.specs.declared.header.Header.TheVariants.{Whole}
 use Rattle.frames.specs.Stream.{header_of}
 
--- a payload of this kind and length has literals or a chunk, for which memory is allocated
+-- a payload of this kind and this length has literals or a chunk, for which memory is allocated
 abbrev pub NeedsMemory : Kind → ℕ → Type 0
 NeedsMemory Task n = 24 < n
 NeedsMemory Piece n = Unit {0}

@@ -15,10 +15,11 @@ use Rattle.frames.specs.declared.frame.Kind.TheVariants as kinds
 use Rattle.frames.specs.Answers.{answer_number, answer_of, length_of}
 use Rattle.frames.specs.Cubes.{IsCube}
 
--- each of the first two bytes of a frame: 0x43
+-- the mark, each of the first two bytes of a frame: 0x43
 abbrev pub mark : ℕ
 mark = 67
 
+-- the number of a kind in a frame
 abbrev pub kind_number : Kind → ℕ
 kind_number kinds.Task = 1
 kind_number kinds.Done = 2
@@ -30,7 +31,7 @@ kind_number kinds.Part = 7
 kind_number kinds.Idle = 8
 kind_number kinds.Rest = 9
 
--- the kind of this number, if there is one
+-- the kind of this number; none if it is not 1 to 9
 abbrev pub kind_from_number : ℕ → Option Kind
 kind_from_number n =
     if n == 1 then Some kinds.Task else
@@ -43,6 +44,7 @@ kind_from_number n =
     if n == 8 then Some kinds.Idle else
     if n == 9 then Some kinds.Rest else None
 
+-- the kind of a frame
 abbrev pub kind_of : Frame → Kind
 kind_of (Task session job limit cube) = kinds.Task
 kind_of (Done attempt ending) = kinds.Done
@@ -66,22 +68,24 @@ allows_length kinds.Part n = nat_le 14 n && nat_le n 4013
 allows_length kinds.Idle n = n == 12
 allows_length kinds.Rest n = n == 0
 
--- a literal's number as 32 bits in two's complement
+-- a literal in a frame: its number as 32 bits in two's complement, big-endian
 abbrev pub literal_bytes : Literal → List ℕ
 literal_bytes l = to_be_bytes w32 (cast_unsigned w32 (number_of l))
 
+-- an attempt in a frame, in 28 bytes
 abbrev pub attempt_bytes : Attempt → List ℕ
 attempt_bytes a = to_be_bytes w64 a.session ++ to_be_bytes w64 a.job ++ to_be_bytes w32 a.worker ++ to_be_bytes w64 a.incarnation
 
--- the answer's number in one byte, and the length in four
+-- a finding in a frame: the answer's number in one byte, and the length in four
 abbrev pub finding_bytes : Finding → List ℕ
 finding_bytes f = answer_number (answer_of f) ∷ to_be_bytes w32 (length_of f)
 
+-- an ending in a frame: a finding, or the number 3 in one byte and the length 0
 abbrev pub ending_bytes : Ending → List ℕ
 ending_bytes (Decided f) = finding_bytes f
 ending_bytes Limit = 3 ∷ to_be_bytes w32 0
 
--- the fields of a frame, in order; numbers are big-endian
+-- the payload of a frame: its fields, in order; numbers are big-endian
 abbrev pub payload : Frame → List ℕ
 payload (Task session job limit cube) = to_be_bytes w64 session ++ to_be_bytes w64 job ++ to_be_bytes w64 limit ++ flat_map literal_bytes cube
 payload (Done attempt ending) = attempt_bytes attempt ++ ending_bytes ending
@@ -93,28 +97,32 @@ payload (Part session answer offset bytes) = to_be_bytes w64 session ++ answer_n
 payload (Idle worker incarnation) = to_be_bytes w32 worker ++ to_be_bytes w64 incarnation
 payload Rest = []
 
--- the bytes of a frame: two marks, the kind, the payload's length in two bytes (big-endian), the payload
+-- the bytes of a frame: two marks, the kind, the payload's length in two bytes (big-endian), and the payload
 abbrev pub FrameBytes : Frame → List ℕ
 FrameBytes f = mark ∷ mark ∷ kind_number (kind_of f) ∷ to_be_bytes w16 (length (payload f)) ++ payload f
 
+-- a worker's number is right: from 1 to 64
 abbrev pub IsWorker : ℕ → Type 0
 IsWorker n = (1 ≤ n) × (n ≤ 64)
 
+-- an attempt is right: its worker's number is, and the others have 64 bits
 pub record IsAttempt (a : Attempt) : Type 0 where
   pub session : a.session < 2 ^ 64
   pub job : a.job < 2 ^ 64
   pub worker : IsWorker a.worker
   pub incarnation : a.incarnation < 2 ^ 64
 
--- a proof has at least one byte
+-- a finding is right: its length has 32 bits, and a proof has at least one byte
 abbrev pub IsFinding : Finding → Type 0
 IsFinding (Refuted length) = (1 ≤ length) × (length < 2 ^ 32)
 IsFinding (Assignment length) = length < 2 ^ 32
 
+-- an ending is right if its finding is
 abbrev pub IsEnding : Ending → Type 0
 IsEnding (Decided f) = IsFinding f
 IsEnding Limit = Unit {0}
 
+-- a chunk: 1 to 4,000 bytes
 abbrev pub IsChunk : List ℕ → Type 0
 IsChunk bytes = (1 ≤ length bytes) × (length bytes ≤ 4000)
 

@@ -1,11 +1,11 @@
-//! Answers: how a worker's search ended, and what a verdict says.
+//! Answers: the end of a worker's search, and the answer of a verdict.
 
 ghost use Rattle.std.specs.Prelude.{◌≡◌, ◌≤◌, ◌^◌, ◌<◌};
 ghost use Rattle.frames.specs.Answers.{answer_number, answer_of, length_of};
 
 use std::marker::Model;
 
-/// The length of a proof in bytes: at least 1.
+/// The length of a proof in bytes, at least 1.
 #[derive(Clone, Copy, Debug, PartialEq, Eq)]
 pub struct ProofLength {
     bytes: u32,
@@ -24,7 +24,7 @@ impl Model for ProofLength {
 }
 
 impl ProofLength {
-    /// A proof of `bytes` bytes.
+    /// The length of a proof of `bytes` bytes.
     pub fn new(bytes: u32) -> ProofLength
         requires { 1 ≤ bytes }
         ensures { result ≡ bytes }
@@ -52,7 +52,7 @@ pub enum Answer {
 }
 
 impl Answer {
-    /// Its number in a frame.
+    /// The number of the answer in a frame.
     pub fn number(self) -> u8
         ensures { result ≡ answer_number self }
     {
@@ -94,7 +94,7 @@ impl Finding {
     }
 }
 
-/// How a search ended.
+/// The end of a search.
 #[derive(Clone, Copy, Debug, PartialEq, Eq)]
 pub enum Ending {
     /// The search decided the formula under its cube.

@@ -6,7 +6,7 @@ ghost use Rattle.frames.specs.inner.Puts.{Puts};
 
 use byteorder::{BigEndian, ByteOrder};
 
-/// The integer in the first four bytes, and the rest.
+/// Reads the integer in the first four bytes. Returns it, and the bytes after it.
 pub(crate) fn u32_at(bytes: &[u8]) -> (u32, &[u8])
     requires { 4 ≤ length bytes.now }
     ensures parts { bytes.now ≡ to_be_bytes w32 result.0 ++ result.1.now }
@@ -17,7 +17,7 @@ pub(crate) fn u32_at(bytes: &[u8]) -> (u32, &[u8])
     (BigEndian::read_u32(number), rest)
 }
 
-/// The integer in the first eight bytes, and the rest.
+/// Reads the integer in the first eight bytes. Returns it, and the bytes after it.
 pub(crate) fn u64_at(bytes: &[u8]) -> (u64, &[u8])
     requires { 8 ≤ length bytes.now }
     ensures parts { bytes.now ≡ to_be_bytes w64 result.0 ++ result.1.now }
@@ -28,7 +28,7 @@ pub(crate) fn u64_at(bytes: &[u8]) -> (u64, &[u8])
     (BigEndian::read_u64(number), rest)
 }
 
-/// Writes `number` at `at`, and returns the place after it.
+/// Writes `number` at index `at`, in two bytes. Returns the index after it.
 pub(crate) fn put_u16(out: &mut [u8], at: usize, number: u16) -> usize
     requires { at + 2 ≤ length out.old }
     ensures { Puts out.old at (to_be_bytes w16 number) out.new result }
@@ -37,7 +37,7 @@ pub(crate) fn put_u16(out: &mut [u8], at: usize, number: u16) -> usize
     at + 2
 }
 
-/// Writes `number` at `at`, and returns the place after it.
+/// Writes `number` at index `at`, in four bytes. Returns the index after it.
 pub(crate) fn put_u32(out: &mut [u8], at: usize, number: u32) -> usize
     requires { at + 4 ≤ length out.old }
     ensures { Puts out.old at (to_be_bytes w32 number) out.new result }
@@ -46,7 +46,7 @@ pub(crate) fn put_u32(out: &mut [u8], at: usize, number: u32) -> usize
     at + 4
 }
 
-/// Writes `number` at `at`, and returns the place after it.
+/// Writes `number` at index `at`, in eight bytes. Returns the index after it.
 pub(crate) fn put_u64(out: &mut [u8], at: usize, number: u64) -> usize
     requires { at + 8 ≤ length out.old }
     ensures { Puts out.old at (to_be_bytes w64 number) out.new result }

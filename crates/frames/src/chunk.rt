@@ -5,7 +5,7 @@ ghost use Rattle.std.specs.Prelude.{◌≡◌, ◌≤◌, length, IfOk};
 use std::alloc::{AllocError, Global};
 use std::marker::Model;
 
-/// A part of a longer text: 1 to 4,000 bytes.
+/// A chunk: 1 to 4,000 bytes of a longer text.
 #[derive(Debug, Drop)]
 pub struct Chunk {
     bytes: Vec<u8>,
@@ -22,7 +22,7 @@ impl Model for Chunk {
 }
 
 impl Chunk {
-    /// The most bytes of a chunk.
+    /// The greatest number of bytes of a chunk.
     pub const LONGEST: usize = 4000;
 
     /// A chunk of these 1 to 4,000 bytes.
@@ -62,7 +62,7 @@ impl Chunk {
         self.bytes.as_slice()
     }
 
-    /// The bytes, owned.
+    /// Hands out the bytes.
     pub fn into_vec(self) -> Vec<u8>
         ensures { result.items ≡ self }
     {

@@ -8,7 +8,7 @@ use dimacs::Lit;
 use std::alloc::{AllocError, Global};
 use std::marker::Model;
 
-/// Literals that are assumed together, in order: at most 64, of variables up to 2,000,000, no variable twice.
+/// A cube: literals that are assumed together, in order. They are at most 64, of variables up to 2,000,000, no variable twice.
 #[derive(Debug, Drop)]
 pub struct Cube {
     literals: Vec<Lit>,
@@ -27,13 +27,13 @@ impl Model for Cube {
 }
 
 impl Cube {
-    /// The most literals of a cube.
+    /// The greatest number of literals of a cube.
     pub const LONGEST: usize = 64;
 
     /// The greatest variable of a cube.
     pub const VARIABLES: u32 = 2000000;
 
-    /// The cube of no literal.
+    /// An empty cube.
     pub fn new(alloc: Global) -> Cube
         ensures { result ≡ [] }
     {
@@ -42,7 +42,7 @@ impl Cube {
         }
     }
 
-    /// The cube of these literals.
+    /// A cube with a copy of these literals.
     pub fn from_slice(alloc: Global, literals: &[Lit]) -> Result<Cube, AllocError>
         requires { IsCube literals.now }
         ensures { IfOk result (λ c. c ≡ literals.now) }
@@ -51,7 +51,8 @@ impl Cube {
         Ok(Cube { literals })
     }
 
-    /// Whether `literal` may be appended: the cube has fewer than 64 literals, and the literal's variable is at most 2,000,000 and new.
+    /// Whether a literal may be appended: the cube has fewer than 64 literals, and the literal's
+    /// variable is at most 2,000,000 and not in the cube.
     pub fn takes(&self, literal: Lit) -> bool
         ensures { result ≡ takes self.now literal }
     {
@@ -72,7 +73,7 @@ impl Cube {
         Ok(())
     }
 
-    /// An equal cube.
+    /// A copy of the cube.
     pub fn copy(&self, alloc: Global) -> Result<Cube, AllocError>
         ensures { IfOk result (λ c. c ≡ self.now) }
     {
@@ -89,7 +90,7 @@ impl Cube {
         self.literals.len()
     }
 
-    /// Whether it has no literal.
+    /// Whether the cube has no literal.
     #[inline]
     pub fn is_empty(&self) -> bool
         ensures { IsTrue result ↔ (length self.now ≡ 0) }
@@ -97,7 +98,7 @@ impl Cube {
         self.literals.is_empty()
     }
 
-    /// Its literals, in order.
+    /// The literals, in order.
     #[inline]
     pub fn as_slice(&self) -> &[Lit]
         ensures value { result.now ≡ self.now }
@@ -107,6 +108,7 @@ impl Cube {
     }
 }
 
+/// Whether one of these literals is of the variable.
 fn has_variable(literals: &[Lit], variable: u32) -> bool
     ensures { result ≡ list_any (names variable) literals.now }
 {

@@ -1,4 +1,4 @@
-//! The decoder: a frame from its kind and payload.
+//! The decoder: it makes a frame of its kind and payload.
 
 ghost use Rattle.std.specs.Prelude.{◌≡◌, ◌≢◌, ◌≤◌, ◌<◌, ◌%◌, length, true, Err};
 ghost use Rattle.frames.specs.WireFormat.{allows_length};
@@ -12,6 +12,7 @@ use crate::fields::{answer_at, attempt_at, cube_of, ending_of, finding_of, worke
 use crate::frame::{Frame, Kind};
 use std::alloc::Global;
 
+/// Decodes the payload of a Task frame; `BadField` if its literals are not those of a cube.
 fn task_of(alloc: Global, payload: &[u8]) -> Result<Frame, FrameFault>
     requires long { 24 ≤ length payload.now }
     requires fours { length payload.now % 4 ≡ 0 }
@@ -30,6 +31,8 @@ fn task_of(alloc: Global, payload: &[u8]) -> Result<Frame, FrameFault>
     })
 }
 
+/// Decodes the payload of a Done frame; `BadField` if the worker's number is not from 1 to 64, or
+/// the ending is unknown.
 fn done_of(payload: &[u8]) -> Result<Frame, FrameFault>
     requires { length payload.now ≡ 33 }
     ensures decodes { Decodes Kind.Done payload.now result }
@@ -44,6 +47,7 @@ fn done_of(payload: &[u8]) -> Result<Frame, FrameFault>
     Ok(Frame::Done { attempt, ending })
 }
 
+/// Decodes the payload of a Fetch frame; `BadField` if the worker's number is not from 1 to 64.
 fn fetch_of(payload: &[u8]) -> Result<Frame, FrameFault>
     requires { length payload.now ≡ 32 }
     ensures decodes { Decodes Kind.Fetch payload.now result }
@@ -56,6 +60,7 @@ fn fetch_of(payload: &[u8]) -> Result<Frame, FrameFault>
     Ok(Frame::Fetch { attempt, offset })
 }
 
+/// Decodes the payload of a Piece frame; `BadField` if the worker's number is not from 1 to 64.
 fn piece_of(alloc: Global, payload: &[u8]) -> Result<Frame, FrameFault>
     requires above { 33 ≤ length payload.now }
     requires below { length payload.now ≤ 4032 }
@@ -73,6 +78,8 @@ fn piece_of(alloc: Global, payload: &[u8]) -> Result<Frame, FrameFault>
     })
 }
 
+/// Decodes the payload of a Verdict frame; `BadField` if its answer is unknown, or a proof's length
+/// is 0.
 fn verdict_of(payload: &[u8]) -> Result<Frame, FrameFault>
     requires { length payload.now ≡ 13 }
     ensures decodes { Decodes Kind.Verdict payload.now result }
@@ -85,6 +92,7 @@ fn verdict_of(payload: &[u8]) -> Result<Frame, FrameFault>
     Ok(Frame::Verdict { session, finding })
 }
 
+/// Decodes the payload of a Want frame; `BadField` if the worker's number is not from 1 to 64.
 fn want_of(payload: &[u8]) -> Result<Frame, FrameFault>
     requires { length payload.now ≡ 16 }
     ensures decodes { Decodes Kind.Want payload.now result }
@@ -102,6 +110,7 @@ fn want_of(payload: &[u8]) -> Result<Frame, FrameFault>
     })
 }
 
+/// Decodes the payload of a Part frame; `BadField` if its answer is unknown.
 fn part_of(alloc: Global, payload: &[u8]) -> Result<Frame, FrameFault>
     requires above { 14 ≤ length payload.now }
     requires below { length payload.now ≤ 4013 }
@@ -121,6 +130,7 @@ fn part_of(alloc: Global, payload: &[u8]) -> Result<Frame, FrameFault>
     })
 }
 
+/// Decodes the payload of an Idle frame; `BadField` if the worker's number is not from 1 to 64.
 fn idle_of(payload: &[u8]) -> Result<Frame, FrameFault>
     requires { length payload.now ≡ 12 }
     ensures decodes { Decodes Kind.Idle payload.now result }
@@ -136,6 +146,7 @@ fn idle_of(payload: &[u8]) -> Result<Frame, FrameFault>
     })
 }
 
+/// Decodes the empty payload of a Rest frame.
 fn rest_of(payload: &[u8]) -> Result<Frame, FrameFault>
     requires { length payload.now ≡ 0 }
     ensures decodes { Decodes Kind.Rest payload.now result }
@@ -144,8 +155,8 @@ fn rest_of(payload: &[u8]) -> Result<Frame, FrameFault>
     Ok(Frame::Rest)
 }
 
-/// The frame of this kind with this payload. `BadField` if a field of the payload is not right; `NoMemory` only if the frame has
-/// literals or a chunk.
+/// Decodes a payload of this kind, whose length is possible for the kind. `BadField` if a field of the payload is not right; `NoMemory`
+/// only if the frame has literals or a chunk.
 pub(crate) fn frame_of(alloc: Global, kind: Kind, payload: &[u8]) -> Result<Frame, FrameFault>
     requires { allows_length kind (length payload.now) ≡ true }
     ensures decodes { Decodes kind payload.now result }

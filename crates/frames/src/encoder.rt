@@ -1,4 +1,4 @@
-//! The encoder: a frame's bytes.
+//! The encoder: it writes the bytes of a frame.
 
 ghost use Rattle.std.specs.Prelude.{◌≡◌, ◌+◌, ◌*◌, ◌≤◌, ◌∷◌, ◌++◌, length, drop, flat_map};
 ghost use Rattle.std.specs.Int.{w16, w32, cast_unsigned, to_be_bytes};
@@ -15,7 +15,7 @@ use crate::header::{HEADER_LEN, MARK};
 use crate::worker::WorkerNumber;
 use dimacs::Lit;
 
-/// The length of the payload in bytes, at most 4,032.
+/// The length of a frame's payload in bytes, at most 4,032.
 fn payload_len(frame: &Frame) -> usize
     ensures value { result ≡ length (payload frame.now) }
     ensures limit { result ≤ 4032 }
@@ -33,7 +33,7 @@ fn payload_len(frame: &Frame) -> usize
     }
 }
 
-/// The length of the encoded frame in bytes: 5 to 4,037.
+/// The length of an encoded frame in bytes, 5 to 4,037.
 pub fn len(frame: &Frame) -> usize
     ensures value { result ≡ length (FrameBytes frame.now) }
     ensures limit { result ≤ 4037 }
@@ -41,7 +41,7 @@ pub fn len(frame: &Frame) -> usize
     HEADER_LEN + payload_len(frame)
 }
 
-/// Writes `bytes` at `at`, and returns the place after them.
+/// Writes `bytes` at index `at`. Returns the index after them.
 fn put_bytes(out: &mut [u8], at: usize, bytes: &[u8]) -> usize
     requires { at + length bytes.now ≤ length out.old }
     ensures { Puts out.old at bytes.now out.new result }
@@ -51,6 +51,7 @@ fn put_bytes(out: &mut [u8], at: usize, bytes: &[u8]) -> usize
     end
 }
 
+/// Writes the header of a frame at the front of `out`; `len` is the payload's length. Returns the index after it.
 fn put_header(out: &mut [u8], kind: Kind, len: u16) -> usize
     requires { 5 ≤ length out.old }
     ensures { Puts out.old 0 (67 ∷ 67 ∷ kind_number kind ∷ to_be_bytes w16 len) out.new result }
@@ -59,6 +60,7 @@ fn put_header(out: &mut [u8], kind: Kind, len: u16) -> usize
     put_u16(out, at, len)
 }
 
+/// Writes an attempt at index `at`, in 28 bytes. Returns the index after it.
 fn put_attempt(out: &mut [u8], at: usize, attempt: &Attempt) -> usize
     requires { at + 28 ≤ length out.old }
     ensures { Puts out.old at (attempt_bytes attempt.now) out.new result }
@@ -69,6 +71,7 @@ fn put_attempt(out: &mut [u8], at: usize, attempt: &Attempt) -> usize
     put_u64(out, at, attempt.incarnation)
 }
 
+/// Writes a finding at index `at`, in five bytes. Returns the index after it.
 fn put_finding(out: &mut [u8], at: usize, finding: &Finding) -> usize
     requires { at + 5 ≤ length out.old }
     ensures { Puts out.old at (finding_bytes finding.now) out.new result }
@@ -78,6 +81,7 @@ fn put_finding(out: &mut [u8], at: usize, finding: &Finding) -> usize
     put_u32(out, at, finding.length())
 }
 
+/// Writes an ending at index `at`, in five bytes. Returns the index after it.
 fn put_ending(out: &mut [u8], at: usize, ending: &Ending) -> usize
     requires { at + 5 ≤ length out.old }
     ensures { Puts out.old at (ending_bytes ending.now) out.new result }
@@ -88,13 +92,14 @@ fn put_ending(out: &mut [u8], at: usize, ending: &Ending) -> usize
     }
 }
 
-/// A literal's number in 32 bits, in two's complement.
+/// The number of a literal in 32 bits, in two's complement.
 fn word(literal: Lit) -> u32
     ensures { result ≡ cast_unsigned w32 (number_of literal) }
 {
     literal.number().cast_unsigned()
 }
 
+/// Writes literals at index `at`, four bytes for each. Returns the index after them.
 fn put_literals(out: &mut [u8], at: usize, literals: &[Lit]) -> usize
     requires { at + 4 * length literals.now ≤ length out.old }
     ensures { Puts out.old at (flat_map literal_bytes literals.now) out.new result }
@@ -106,6 +111,7 @@ fn put_literals(out: &mut [u8], at: usize, literals: &[Lit]) -> usize
     at
 }
 
+/// Writes the payload of a task at index `at`. Returns the index after it.
 fn put_task(out: &mut [u8], at: usize, session: u64, job: u64, limit: u64, cube: &Cube) -> usize
     requires { at + 24 + 4 * length cube.now ≤ length out.old }
     ensures { Puts out.old at (payload (Frame.Task session job limit cube.now)) out.new result }
@@ -116,6 +122,7 @@ fn put_task(out: &mut [u8], at: usize, session: u64, job: u64, limit: u64, cube:
     put_literals(out, at, cube.as_slice())
 }
 
+/// Writes the payload of a done frame at index `at`. Returns the index after it.
 fn put_done(out: &mut [u8], at: usize, attempt: &Attempt, ending: &Ending) -> usize
     requires { at + 33 ≤ length out.old }
     ensures { Puts out.old at (payload (Frame.Done attempt.now ending.now)) out.new result }
@@ -124,6 +131,7 @@ fn put_done(out: &mut [u8], at: usize, attempt: &Attempt, ending: &Ending) -> us
     put_ending(out, at, ending)
 }
 
+/// Writes the payload of a fetch frame at index `at`. Returns the index after it.
 fn put_fetch(out: &mut [u8], at: usize, attempt: &Attempt, offset: u32) -> usize
     requires { at + 32 ≤ length out.old }
     ensures { Puts out.old at (payload (Frame.Fetch attempt.now offset)) out.new result }
@@ -132,6 +140,7 @@ fn put_fetch(out: &mut [u8], at: usize, attempt: &Attempt, offset: u32) -> usize
     put_u32(out, at, offset)
 }
 
+/// Writes the payload of a piece frame at index `at`. Returns the index after it.
 fn put_piece(out: &mut [u8], at: usize, attempt: &Attempt, offset: u32, bytes: &Chunk) -> usize
     requires { at + 32 + length bytes.now ≤ length out.old }
     ensures { Puts out.old at (payload (Frame.Piece attempt.now offset bytes.now)) out.new result }
@@ -140,6 +149,7 @@ fn put_piece(out: &mut [u8], at: usize, attempt: &Attempt, offset: u32, bytes: &
     put_bytes(out, at, bytes.as_slice())
 }
 
+/// Writes the payload of a verdict at index `at`. Returns the index after it.
 fn put_verdict(out: &mut [u8], at: usize, session: u64, finding: &Finding) -> usize
     requires { at + 13 ≤ length out.old }
     ensures { Puts out.old at (payload (Frame.Verdict session finding.now)) out.new result }
@@ -148,6 +158,7 @@ fn put_verdict(out: &mut [u8], at: usize, session: u64, finding: &Finding) -> us
     put_finding(out, at, finding)
 }
 
+/// Writes the payload of a want frame at index `at`. Returns the index after it.
 fn put_want(out: &mut [u8], at: usize, session: u64, worker: WorkerNumber, offset: u32) -> usize
     requires { at + 16 ≤ length out.old }
     ensures { Puts out.old at (payload (Frame.Want session worker offset)) out.new result }
@@ -157,6 +168,7 @@ fn put_want(out: &mut [u8], at: usize, session: u64, worker: WorkerNumber, offse
     put_u32(out, at, offset)
 }
 
+/// Writes the payload of a part frame at index `at`. Returns the index after it.
 fn put_part(
     out: &mut [u8],
     at: usize,
@@ -175,6 +187,7 @@ fn put_part(
     put_bytes(out, at, bytes.as_slice())
 }
 
+/// Writes the payload of an idle frame at index `at`. Returns the index after it.
 fn put_idle(out: &mut [u8], at: usize, worker: WorkerNumber, incarnation: u64) -> usize
     requires { at + 12 ≤ length out.old }
     ensures { Puts out.old at (payload (Frame.Idle worker incarnation)) out.new result }
@@ -183,6 +196,7 @@ fn put_idle(out: &mut [u8], at: usize, worker: WorkerNumber, incarnation: u64) -
     put_u64(out, at, incarnation)
 }
 
+/// Writes the payload of a frame at index `at`. Returns the index after it.
 fn put_payload(out: &mut [u8], at: usize, frame: &Frame) -> usize
     requires { at + length (payload frame.now) ≤ length out.old }
     ensures { Puts out.old at (payload frame.now) out.new result }
@@ -221,7 +235,7 @@ fn put_payload(out: &mut [u8], at: usize, frame: &Frame) -> usize
     }
 }
 
-/// Writes the frame's bytes at the front of `out`, leaves the rest, and returns how many bytes were written.
+/// Writes the bytes of a frame at the front of `out`, whose other bytes are unchanged. Returns how many bytes were written.
 pub fn encode(frame: &Frame, out: &mut [u8]) -> usize
     requires { length (FrameBytes frame.now) ≤ length out.old }
     ensures written { out.new ≡ FrameBytes frame.now ++ drop (length (FrameBytes frame.now)) out.old }

@@ -6,7 +6,7 @@ ghost use Rattle.frames.specs.declared.fault.FrameFault.TheVariants.{NoMemory};
 use std::alloc::{AllocError, AllocFailed};
 use thiserror::Error;
 
-/// Why a stream is refused, in the order of the tests.
+/// A fault of a stream of frames, in the order of the tests.
 #[derive(Clone, Copy, Debug, PartialEq, Eq, Error)]
 pub enum FrameFault {
     /// One of the first two bytes of a frame is not 0x43.
@@ -15,7 +15,7 @@ pub enum FrameFault {
     /// The kind is not 1 to 9.
     #[error("there is no such kind of frame")]
     BadKind,
-    /// The length is not possible for the kind.
+    /// The payload's length is not possible for the kind.
     #[error("the length is not possible for the kind")]
     BadLength,
     /// The payload is complete, and a field is not right.
@@ -27,7 +27,7 @@ pub enum FrameFault {
 }
 
 impl FrameFault {
-    /// Its number, 1 to 5.
+    /// The number of the fault, 1 to 5.
     pub fn number(self) -> u8
         ensures mark { self ≡ FrameFault.BadMark → result ≡ 1 }
         ensures kind { self ≡ FrameFault.BadKind → result ≡ 2 }

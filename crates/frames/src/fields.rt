@@ -1,4 +1,4 @@
-//! The fields of a payload, each parsed from the front of the bytes.
+//! The fields of a payload, each read from the front of the bytes.
 
 ghost use Rattle.std.specs.Prelude.{◌≡◌, ◌≢◌, ◌+◌, ◌*◌, ◌%◌, ◌≤◌, ◌<◌, ◌^◌, ◌++◌, length, take, drop, MatchOption, MatchResult, flat_map};
 ghost use Rattle.std.specs.Int.{w32, to_be_bytes};
@@ -17,7 +17,7 @@ use crate::worker::WorkerNumber;
 use dimacs::{Lit, Var};
 use std::alloc::Global;
 
-/// The worker's number in the first four bytes, and the rest; `None` if it is not 1 to 64.
+/// Reads the worker's number in the first four bytes. Returns it and the bytes after it; `None` if it is not 1 to 64.
 pub(crate) fn worker_at(bytes: &[u8]) -> Option<(WorkerNumber, &[u8])>
     requires { 4 ≤ length bytes.now }
     ensures { MatchOption result (BeginsWithNoField (to_be_bytes w32) IsWorker bytes.now) (λ r. BeginsWithField (to_be_bytes w32) IsWorker bytes.now r.0 r.1.now) }
@@ -30,7 +30,7 @@ pub(crate) fn worker_at(bytes: &[u8]) -> Option<(WorkerNumber, &[u8])>
     }
 }
 
-/// The attempt in the first 28 bytes, and the rest; `None` if its worker's number is not 1 to 64.
+/// Reads the attempt in the first 28 bytes. Returns it and the bytes after it; `None` if its worker's number is not 1 to 64.
 pub(crate) fn attempt_at(bytes: &[u8]) -> Option<(Attempt, &[u8])>
     requires { 28 ≤ length bytes.now }
     ensures { MatchOption result (BeginsWithNoField attempt_bytes IsAttempt bytes.now) (λ r. BeginsWithField attempt_bytes IsAttempt bytes.now r.0 r.1.now) }
@@ -52,7 +52,7 @@ pub(crate) fn attempt_at(bytes: &[u8]) -> Option<(Attempt, &[u8])>
     }
 }
 
-/// The answer in the first byte, and the rest; `None` if the byte is neither 1 nor 2.
+/// Reads the answer in the first byte. Returns it and the bytes after it; `None` if the byte is neither 1 nor 2.
 pub(crate) fn answer_at(bytes: &[u8]) -> Option<(Answer, &[u8])>
     requires { 1 ≤ length bytes.now }
     ensures { MatchOption result (BeginsWithNoField answer_bytes IsAnswer bytes.now) (λ r. BeginsWithField answer_bytes IsAnswer bytes.now r.0 r.1.now) }
@@ -64,7 +64,8 @@ pub(crate) fn answer_at(bytes: &[u8]) -> Option<(Answer, &[u8])>
     }
 }
 
-/// The finding in these five bytes (answer and length); `None` if they are not right.
+/// Reads the finding in these five bytes (answer and length); `None` if the answer is unknown, or a
+/// proof's length is 0.
 pub(crate) fn finding_of(bytes: &[u8]) -> Option<Finding>
     requires { length bytes.now ≡ 5 }
     ensures { MatchOption result (SpellsNone finding_bytes IsFinding bytes.now) (λ f. IsSpelled finding_bytes IsFinding bytes.now f) }
@@ -81,7 +82,8 @@ pub(crate) fn finding_of(bytes: &[u8]) -> Option<Finding>
     None
 }
 
-/// The ending in these five bytes (answer and length); `None` if they are not right.
+/// Reads the ending in these five bytes: 3 and zeros for a search that met its limit, or else a
+/// finding; `None` if they are neither.
 pub(crate) fn ending_of(bytes: &[u8]) -> Option<Ending>
     requires { length bytes.now ≡ 5 }
     ensures { MatchOption result (SpellsNone ending_bytes IsEnding bytes.now) (λ o. IsSpelled ending_bytes IsEnding bytes.now o) }
@@ -97,7 +99,7 @@ pub(crate) fn ending_of(bytes: &[u8]) -> Option<Ending>
     }
 }
 
-/// The literal whose number is `word` in two's complement; `None` if a cube cannot have its variable.
+/// The literal whose number is `word` in two's complement; `None` if a cube cannot have the literal.
 fn literal_from(word: u32) -> Option<Lit>
     ensures { MatchOption result ((l : Literal) → IsTwosComplement word l → ⊥) (λ l. IsTwosComplement word l) }
 {
@@ -111,7 +113,7 @@ fn literal_from(word: u32) -> Option<Lit>
     None
 }
 
-/// The cube of these bytes, four for each literal. `BadField` if they are not the literals of a cube.
+/// Reads the cube of these bytes, four for each literal; `BadField` if they are not the literals of a cube.
 pub(crate) fn cube_of(alloc: Global, bytes: &[u8]) -> Result<Cube, FrameFault>
     requires { length bytes.now % 4 ≡ 0 }
     ensures spelled { MatchResult result (λ c. IsSpelled (flat_map literal_bytes) IsCube bytes.now c) (λ e. FaultMeans e (SpellsNone (flat_map literal_bytes) IsCube bytes.now)) }

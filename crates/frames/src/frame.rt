@@ -8,16 +8,21 @@ use crate::chunk::Chunk;
 use crate::cube::Cube;
 use crate::worker::WorkerNumber;
 
-/// One worker at one job. A job's number is given once in a session, and a restarted worker has another incarnation.
+/// An attempt: one worker at one job. A job's number is given once in a session, and a restarted worker has another incarnation.
 #[derive(Clone, Copy, Debug, PartialEq, Eq)]
 pub struct Attempt {
+    /// The number of the session.
     pub session: u64,
+    /// The number of the job in the session.
     pub job: u64,
+    /// The number of the worker.
     pub worker: WorkerNumber,
+    /// The worker's incarnation.
     pub incarnation: u64,
 }
 
-/// A message. Its types can hold right fields alone, so that each frame has one encoding, and each encoding is of one frame.
+/// A message between a coordinator and a worker. Its types can hold right fields alone, so that each frame has one encoding, and each
+/// encoding is of one frame.
 #[derive(Debug, Drop)]
 pub enum Frame {
     /// To a worker: search under this cube, with this limit.
@@ -85,7 +90,7 @@ pub enum Kind {
 }
 
 impl Kind {
-    /// Its number in a frame, 1 to 9.
+    /// The number of the kind in a frame, 1 to 9.
     pub fn number(self) -> u8
         ensures { result ≡ kind_number self }
     {
@@ -119,7 +124,7 @@ impl Kind {
         }
     }
 
-    /// The kind of this number.
+    /// The kind of this number; None if it is not 1 to 9.
     pub fn from_number(number: u8) -> Option<Kind>
         ensures { result ≡ kind_from_number number }
     {
@@ -139,7 +144,7 @@ impl Kind {
 }
 
 impl Frame {
-    /// Its kind.
+    /// The kind of the frame.
     pub fn kind(&self) -> Kind
         ensures { result ≡ kind_of self.now }
     {

@@ -1,4 +1,4 @@
-//! The header of a frame: mark, kind and length of the payload.
+//! The header of a frame: mark, kind, and length of the payload.
 
 ghost use Rattle.std.specs.Prelude.{◌≡◌};
 ghost use Rattle.frames.specs.Stream.{from_length, from_kind, from_second_mark, header_of};
@@ -7,13 +7,13 @@ use crate::fault::FrameFault;
 use crate::frame::Kind;
 use byteorder::{BigEndian, ByteOrder};
 
-/// Each of the first two bytes of a frame.
+/// The mark: each of the first two bytes of a frame.
 pub(crate) const MARK: u8 = 0x43;
 
 /// The length of a header in bytes: two marks, the kind, and two bytes of length.
 pub(crate) const HEADER_LEN: usize = 5;
 
-/// What the first bytes of a frame tell.
+/// What the first bytes of a frame show of its header.
 #[derive(Clone, Copy, Debug, PartialEq, Eq)]
 pub enum Header {
     /// Fewer than five bytes, without a fault so far.
@@ -24,7 +24,7 @@ pub enum Header {
     Whole(Kind, usize),
 }
 
-/// Parses the header from the left: a fault is found with its byte, before the later bytes have come.
+/// Reads the header of these bytes from the left: a fault is found with its byte, before the later bytes have come.
 pub(crate) fn read_header(bytes: &[u8]) -> Header
     ensures { result ≡ header_of bytes.now }
 {
@@ -35,6 +35,7 @@ pub(crate) fn read_header(bytes: &[u8]) -> Header
     }
 }
 
+/// Reads the header from its second mark on, which is the first of these bytes.
 fn after_mark(bytes: &[u8]) -> Header
     ensures { result ≡ from_second_mark bytes.now }
 {
@@ -45,6 +46,7 @@ fn after_mark(bytes: &[u8]) -> Header
     }
 }
 
+/// Reads the header from its kind on, which is the first of these bytes.
 fn after_marks(bytes: &[u8]) -> Header
     ensures { result ≡ from_kind bytes.now }
 {
@@ -57,6 +59,7 @@ fn after_marks(bytes: &[u8]) -> Header
     }
 }
 
+/// Reads the header from the payload's length on, the first two of these bytes; the kind is known.
 fn after_kind(kind: Kind, bytes: &[u8]) -> Header
     ensures { result ≡ from_length kind bytes.now }
 {

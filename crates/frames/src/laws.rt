@@ -18,7 +18,7 @@ pub fn streams_are_read_one_way()
     ensures same { (bytes : List ℕ) (fs gs : List Frame) (d e : End) → Stream bytes fs d → Stream bytes gs e → (fs ≡ gs) × (d ≡ e) }
 {}
 
-/// Each value of the type has right fields.
+/// The fields of each value of the type `Frame` are right.
 pub fn fields_are_right(frame: &Frame)
     ensures { IsRight frame.now }
 {
@@ -85,6 +85,8 @@ pub fn fields_are_right(frame: &Frame)
     }
 }
 
+/// A step of proofs: the fields of each value of the type `Attempt` are right. It does nothing at
+/// run time.
 fn right_attempt(attempt: &Attempt)
     ensures { IsAttempt attempt.now }
 {
@@ -94,6 +96,8 @@ fn right_attempt(attempt: &Attempt)
     let _ = attempt.worker.number(); // ensures that it is 1 to 64
 }
 
+/// A step of proofs: the length in each value of the type `Finding` is right. It does nothing at
+/// run time.
 fn right_finding(finding: &Finding)
     ensures { IsFinding finding.now }
 {
@@ -107,6 +111,8 @@ fn right_finding(finding: &Finding)
     }
 }
 
+/// A step of proofs: the finding in each value of the type `Ending` is right. It does nothing at
+/// run time.
 fn right_ending(ending: &Ending)
     ensures { IsEnding ending.now }
 {
@@ -116,10 +122,12 @@ fn right_ending(ending: &Ending)
     }
 }
 
+/// A step of proofs: a `u64` is below 2^64. It does nothing at run time.
 fn fits_64(number: u64)
     ensures { number < 2 ^ 64 }
 {}
 
+/// A step of proofs: a `u32` is below 2^32. It does nothing at run time.
 fn fits_32(number: u32)
     ensures { number < 2 ^ 32 }
 {}

@@ -1,5 +1,5 @@
-//! Frames: the messages between the nodes of a cluster, their encoding in bytes, and the reader of a stream that comes in any
-//! pieces. `docs/dev/FRAMES.md` has the format.
+//! Frames: the messages between the nodes of a cluster, their encoding in bytes, and the reader of a stream that is cut into pieces
+//! anywhere. `docs/dev/FRAMES.md` has the format.
 #![tactic(auto)]
 
 mod answer;

@@ -1,4 +1,4 @@
-//! The reader of a stream of frames, which comes in any pieces.
+//! The reader of a stream of frames, which is cut into pieces anywhere.
 
 ghost use Rattle.std.specs.Prelude.{◌≡◌, ◌≢◌, ◌+◌, ◌≤◌, ◌++◌, List, [], length, take, min, vec_len, vec_capacity, MatchOption, MatchResult, OnErr, IfOk, Ok, Err};
 ghost use Rattle.frames.specs.declared.frame.Frame.{Frame};
@@ -17,10 +17,13 @@ use std::marker::Model;
 /// The length of the longest frame in bytes.
 const LONGEST: usize = 4037;
 
-/// Parses a stream of bytes, fed in any pieces, into frames. Its buffer is reserved once, and holds at most one incomplete frame.
+/// A reader of a stream of bytes, cut into pieces anywhere: it makes frames of them. Its buffer is reserved once, and holds at most one
+/// incomplete frame between two calls.
 #[derive(Debug, Drop)]
 pub struct Reader {
+    /// The bytes of the frame that is not complete yet.
     buffer: Vec<u8>,
+    /// The fault that was found in the stream, if there is one.
     fault: Option<FrameFault>,
 }
 
@@ -38,7 +41,7 @@ impl Model for Reader {
 }
 
 impl Reader {
-    /// A reader at the beginning of a stream.
+    /// A reader that has read no byte.
     pub fn new(alloc: Global) -> Result<Reader, AllocError>
         ensures { IfOk result (λ r. r ≡ Within []) }
     {
@@ -49,9 +52,9 @@ impl Reader {
         })
     }
 
-    /// Takes the next piece of the stream, and appends each frame that is complete now. Faults 1 to 4 are returned as soon as their byte
-    /// has come, after the frames before it were appended; each later call returns the same fault and appends nothing. After `NoMemory`
-    /// reader and `frames` are unchanged, and the piece was not taken.
+    /// Reads the next piece of the stream, and appends each frame that is complete now. Faults 1 to 4 are returned as soon as their byte
+    /// has come, after the frames before it were appended; each later call returns the same fault and appends nothing. After `NoMemory` the
+    /// reader and `frames` are unchanged, and the piece was not read.
     #[tactic(auto, using(crate::proofs::ReaderLemmas::takes_within))]
     pub fn feed(
         &mut self,
@@ -83,8 +86,8 @@ impl Reader {
     }
 }
 
-/// Reads a stream that was cut into these pieces, and appends its frames. A fault ends the reading; after `NoMemory` the frames of
-/// the earlier pieces have been appended.
+/// Reads a stream that was cut into these pieces, and appends its frames. A fault ends the stream; after `NoMemory` the frames of the
+/// earlier pieces have been appended.
 pub fn read_pieces(
     alloc: Global,
     pieces: &[Vec<u8>],
@@ -102,7 +105,7 @@ pub fn read_pieces(
     Ok(())
 }
 
-/// The frame at the front of `bytes`, and the bytes after it; `None` if the frame is not complete.
+/// Reads the frame at the front of `bytes`. Returns it and the bytes after it; `None` if the frame is not complete.
 fn first(alloc: Global, bytes: &[u8]) -> Result<Option<(Frame, &[u8])>, FrameFault>
     ensures first { MatchResult result
         (λ found. MatchOption found (Ends bytes.now Open) (λ r. Begins bytes.now r.0 r.1.now))
@@ -124,8 +127,8 @@ fn first(alloc: Global, bytes: &[u8]) -> Result<Option<(Frame, &[u8])>, FrameFau
     }
 }
 
-/// The first frame of `bytes`, or `None` if they begin with no complete frame with right fields. The bytes after it are not read.
-/// Memory can be refused only if the payload is complete and has literals or a chunk.
+/// Reads the first frame of `bytes`; `None` if they begin with no complete frame with right fields. The bytes after it are not read. Memory
+/// can be refused only if the payload is complete and has literals or a chunk.
 #[tactic(auto, using(crate::proofs::Streams::ends_begin_none))]
 pub fn first_frame(alloc: Global, bytes: &[u8]) -> Result<Option<Frame>, AllocError>
     ensures first { IfOk result (λ found. MatchOption found (BeginsNoFrame bytes.now) (BeginsWith bytes.now)) }
@@ -139,7 +142,8 @@ pub fn first_frame(alloc: Global, bytes: &[u8]) -> Result<Option<Frame>, AllocEr
     }
 }
 
-/// The number of bytes by which the header is incomplete; after a complete header, the same of the payload.
+/// The number of bytes by which the header is incomplete; if it is complete, the number by which the payload is; 0 if the header has a
+/// fault.
 fn missing_bytes(bytes: &[u8]) -> usize
     ensures { result ≡ missing bytes.now }
 {
@@ -150,7 +154,8 @@ fn missing_bytes(bytes: &[u8]) -> usize
     }
 }
 
-/// Appends to the buffer the piece's first bytes, as many as are missing, and returns how many.
+/// Appends to the buffer as many of the piece's first bytes as its header or its payload lacks, or
+/// the whole piece if it has fewer. Returns how many.
 fn top_up(buffer: &mut Vec<u8>, piece: &[u8]) -> usize
     requires { vec_len buffer.old + missing buffer.old.items ≤ vec_capacity buffer.old }
     ensures now { buffer.new.items ≡ buffer.old.items ++ take result piece.now }
@@ -162,8 +167,8 @@ fn top_up(buffer: &mut Vec<u8>, piece: &[u8]) -> usize
     count
 }
 
-/// Fills the buffer up to the end of its frame: first the header, and then the payload, whose length the header has. Returns how many
-/// bytes of the piece were used.
+/// Fills the buffer up to the end of its frame, in two steps: only the complete header tells how
+/// long the payload is. Returns how many bytes of the piece were used.
 fn fill(buffer: &mut Vec<u8>, piece: &[u8]) -> usize
     requires open { Ends buffer.old.items Open }
     requires room { 4037 ≤ vec_capacity buffer.old }
@@ -176,8 +181,8 @@ fn fill(buffer: &mut Vec<u8>, piece: &[u8]) -> usize
     head + payload
 }
 
-/// Goes on with the frame in the buffer. If the frame is complete now, returns it with the bytes of the piece after it. What the
-/// buffer had before stays at its front, so that `feed` can truncate it to that.
+/// Goes on with the frame in the buffer. If the frame is complete now, returns it with the bytes of the piece after it; None if it is not.
+/// The bytes that the buffer had before stay at its front, so that `feed` can truncate it to these.
 fn continue_frame<'a>(
     alloc: Global,
     buffer: &mut Vec<u8>,
@@ -203,7 +208,7 @@ fn continue_frame<'a>(
     }
 }
 
-/// Appends the complete frames at the front of the piece, and returns the bytes after them.
+/// Appends the complete frames at the front of the piece to `frames`. Returns the bytes after them.
 fn read_whole_frames<'a>(
     alloc: Global,
     piece: &'a [u8],
@@ -225,8 +230,8 @@ fn read_whole_frames<'a>(
     }
 }
 
-/// Reads a piece that begins with a new frame, and keeps the bytes after its complete frames in the buffer. After an `Err` the buffer
-/// is unchanged.
+/// Reads a piece that begins with a new frame, and appends its complete frames. The bytes after these overwrite the buffer; after an `Err`
+/// the buffer is unchanged.
 fn read_unbuffered(
     alloc: Global,
     buffer: &mut Vec<u8>,
@@ -246,7 +251,8 @@ fn read_unbuffered(
     Ok(())
 }
 
-/// Reads a piece that continues the bytes of the buffer. After an `Err` the buffer begins with what it had before.
+/// Reads a piece that continues the bytes of the buffer, and appends the frames that are complete now. After an `Err` the buffer begins
+/// with the bytes that it had before.
 fn read(
     alloc: Global,
     buffer: &mut Vec<u8>,

@@ -1,4 +1,4 @@
-//! The numbers of workers.
+//! The number of a worker.
 
 ghost use Rattle.std.specs.Prelude.{◌≡◌, ◌≤◌};
 
@@ -23,7 +23,7 @@ impl Model for WorkerNumber {
 }
 
 impl WorkerNumber {
-    /// The worker of this number.
+    /// The number of a worker, from 1 to 64.
     pub fn new(number: u32) -> WorkerNumber
         requires above { 1 ≤ number }
         requires below { number ≤ 64 }
@@ -32,7 +32,7 @@ impl WorkerNumber {
         WorkerNumber { number }
     }
 
-    /// Its number, 1 to 64.
+    /// The number, 1 to 64.
     #[inline]
     pub fn number(self) -> u32
         ensures value { result ≡ self }

@@ -41,6 +41,7 @@ one_leaf : IsTreeOf (base_with two []) ([] ∷ [])
 one_leaf = record {
   is_tree = record { leaves = leaf; count = omega arith; short = All-from_recursion (λ (c : Cube). length c ≤ 64) ([] ∷ []) (omega arith, tt) };
   inside = All-from_recursion (IsOverBase (base_with two [])) ([] ∷ []) (All-nil (IsWithin 2), tt);
+  narrow = All-from_recursion (All (IsWithin 2000000)) ([] ∷ []) (All-nil (IsWithin 2000000), tt);
 }
 
 pub moment : (turns : List Turn) (new : ClosedState) → Plays begun turns new → IsMoment beginning new

@@ -7,8 +7,8 @@ use Rattle.dimacs.specs.logic.Cnf.{Cnf, Sat, assignment_of}
 use Rattle.dimacs.specs.logic.Literal.{Literal, Pos, Neg, IsTrueIn, IsWithin, literal_true}
 use Rattle.cube_solve.specs.declared.outcome.Outcome.TheVariants as outcome
 use Rattle.icnf.specs.Leaves.{Cube}
-use Rattle.lrat_text.specs.Grammar.{SpellsStep, LineSpells}
-use Rattle.lrat_text.specs.Log.{Closes}
+use Rattle.lrat_text.specs.Grammar.{SpellsStepWithin, LineSpellsWithin}
+use Rattle.lrat_text.specs.Log.{Closes, log_top}
 use Rattle.lrat_text.specs.declared.step.Step.{Step}
 use Rattle.lrat_text.specs.declared.step.Step.TheVariants.{Add, Delete}
 use Rattle.lrat_check.specs.Verdicts.{Right}
@@ -261,21 +261,21 @@ none_last : {X : Type 0} (xs : List X) (y : X) (ys : List X) → [] ≡ xs ++ y 
 none_last [] y ys e = cc
 none_last (x ∷ xs) y ys e = cc
 
-no_step : (step : Step) → SpellsStep (120 ∷ []) step → ⊥
-no_step (Add id lits hints groups) s = none_last _ _ _ (ap rest_of s.spelled)
-no_step (Delete ids) s = none_last [] _ _ (ap rest_of s.spelled)
+no_step : (most : ℕ) (step : Step) → SpellsStepWithin most (120 ∷ []) step → ⊥
+no_step most (Add id lits hints groups) s = none_last _ _ _ (ap rest_of s.spelled)
+no_step most (Delete ids) s = none_last [] _ _ (ap rest_of s.spelled)
 
-no_line : (step : Step) (line rest : List ℕ) → 120 ∷ 10 ∷ [] ≡ line ++ 10 ∷ rest → ¬ (Contains line 10) → SpellsStep line step → ⊥
-no_line step [] rest e none spells = let h : 120 ≡ 10 = ap first_byte e in absurd (omega (arith, h))
-no_line step (a ∷ []) rest e none spells = let h : 120 ≡ a = ap first_byte e in no_step step (subst (λ (b : ℕ). SpellsStep (b ∷ []) step) (sym h) spells)
-no_line step (a ∷ b ∷ line) rest e none spells = let h : 10 ≡ b = ap second_byte e in none (1, omega arith, sym h)
+no_line : (most : ℕ) (step : Step) (line rest : List ℕ) → 120 ∷ 10 ∷ [] ≡ line ++ 10 ∷ rest → ¬ (Contains line 10) → SpellsStepWithin most line step → ⊥
+no_line most step [] rest e none spells = let h : 120 ≡ 10 = ap first_byte e in absurd (omega (arith, h))
+no_line most step (a ∷ []) rest e none spells = let h : 120 ≡ a = ap first_byte e in no_step most step (subst (λ (b : ℕ). SpellsStepWithin most (b ∷ []) step) (sym h) spells)
+no_line most step (a ∷ b ∷ line) rest e none spells = let h : 10 ≡ b = ap second_byte e in none (1, omega arith, sym h)
 
 closes_nothing : (B : Cnf) (q : Cube) → Closes B q (120 ∷ 10 ∷ []) → ⊥
 closes_nothing B q closes = go closes.0 closes.1
   where
-    go : (steps : List Step) → LineSpells (120 ∷ 10 ∷ []) steps → ⊥
+    go : (steps : List Step) → LineSpellsWithin (log_top B) (120 ∷ 10 ∷ []) steps → ⊥
     go [] spells = cc
-    go (step ∷ steps) spells = no_line step spells.0 spells.1 spells.2 spells.3 spells.4
+    go (step ∷ steps) spells = no_line (log_top B) step spells.0 spells.1 spells.2 spells.3 spells.4
 
 -- so a coordinator refuses them, and gives the leaf again
 abbrev fixed_9 : Fixed

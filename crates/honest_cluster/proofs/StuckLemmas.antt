@@ -1,5 +1,5 @@
 -- Why a coordinator is stuck.
-use Rattle.std.proofs.Common.{◌≡◌, ◌≢◌, ℕ, zero, suc, ◌+◌, ◌-◌, ◌<◌, Bool, true, false, List, [], ◌∷◌, ◌++◌, length, Contains, Option, Some, None, slice_get, get_or, refl, subst, sym, ap, ◌∙◌, ◌⊎◌, inl, inr}
+use Rattle.std.proofs.Common.{◌≡◌, ◌≢◌, ℕ, zero, suc, ◌+◌, ◌-◌, ◌<◌, ◌≤◌, Bool, true, false, List, [], ◌∷◌, ◌++◌, length, Contains, Option, Some, None, slice_get, get_or, refl, subst, sym, ap, ◌∙◌, ◌⊎◌, inl, inr}
 use Rattle.std.proofs.lemmas.List.Elements.{Contains-append_left}
 use Rattle.std.proofs.lemmas.Option.{slice_get_within, get_or_from_slice_get}
 use Rattle.dimacs.specs.logic.Base.{pure_literals}
@@ -111,7 +111,7 @@ limit_stuck c attempt j ending answer new is free stuck session at end (Delivers
       subst HasUnsplittableLeaf (sym now) (record {
         leaf = j.leaf;
         unclosed = leaf_unclosed c attempt.worker j is at;
-        whole = λ v can. whole v (record { may = record { short = can.may.short; few = can.may.few }; choice = can.choice });
+        whole = λ v can. whole v (record { may = record { short = can.may.short; few = can.may.few; narrow = can.may.narrow }; choice = can.choice });
       }),
     )
 limit_stuck c attempt j ending answer new is free stuck session at end (DeliversLimit.no_memory may a now) = stays_free c c new _ free refl now stuck
@@ -157,6 +157,8 @@ whole_stays c d f h = record {
       may = record {
         short = subst (λ (t : List Cube). length (get_or t h.leaf []) < 64) f.tree can.may.short;
         few = subst (λ (t : List Cube). length t < 65536) f.tree can.may.few;
+        narrow = subst (λ (F : Cnf). F.vars + length c.definitions.pairs ≤ 2000000) f.formula
+            (subst (λ (e : Definitions). d.formula.vars + length e.pairs ≤ 2000000) f.definitions can.may.narrow);
       };
       choice = subst (λ (t : List Cube). Splits c.formula c.definitions t h.leaf v) f.tree (subst (λ (e : Definitions). Splits c.formula e d.tree h.leaf v) f.definitions
           (subst (λ (F : Cnf). Splits F d.definitions d.tree h.leaf v) f.formula can.choice));

@@ -32,7 +32,7 @@ open_among Outside c e = absurd (cc)
 open_among Inside c e = absurd (cc)
 open_among Complete c e = absurd (cc)
 
-pub read_push : (L : Limits) (walk : WalkState) (old new : BuilderState) (l : Literal) → walk.stage ≡ Clauses → var_of l ≤ 1000000 → IsRead (record { limits = L; clauses = old; walk = walk })
+pub read_push : (L : Limits) (walk : WalkState) (old new : BuilderState) (l : Literal) → walk.stage ≡ Clauses → var_of l ≤ 99999999 → IsRead (record { limits = L; clauses = old; walk = walk })
     → new ≡ record old { open_clause = old.open_clause ++ l ∷ []; total = old.total + 1 } → IsRead (record { limits = L; clauses = new; walk = walk })
 read_push L walk old new l s small h e =
     rw e (record { greatest = omega (arith, h.greatest, greatest_append old.open_clause (l ∷ [])); closed = open_among walk.stage (old.open_clause ++ l ∷ []) s })

@@ -38,13 +38,13 @@ numbers_are (z ∷ zs) h = rw (number_is z h.0, numbers_are zs h.1) refl
 
 -- ---- lines
 
-clause_line_words : (vars : ℕ) (c : Clause) (rest : List ℕ) → vars ≤ 1000000 → AllByRecursion (IsWithin vars) c → flat_map words_of (lines (clause_line c ++ rest)) ≡ map signed_decimal (ended c) ++ flat_map words_of (lines rest)
+clause_line_words : (vars : ℕ) (c : Clause) (rest : List ℕ) → vars ≤ 99999999 → AllByRecursion (IsWithin vars) c → flat_map words_of (lines (clause_line c ++ rest)) ≡ map signed_decimal (ended c) ++ flat_map words_of (lines rest)
 clause_line_words vars c rest v h =
     let regroup : clause_line c ++ rest ≡ clause_text c ++ 10 ∷ rest = append_assoc (clause_text c) (10 ∷ []) rest in
     ap (λ t. flat_map words_of (lines t)) regroup ∙ ap (flat_map words_of) (lines_line (clause_text c) rest (no_end (clause_text c) (clause_plain vars c v h)))
     ∙ ap (λ ws. ws ++ flat_map words_of (lines rest)) (words_of_clause vars c v h)
 
-clauses_tokens : (vars : ℕ) (cs : List Clause) (rest : List ℕ) (ts : List Token) → vars ≤ 1000000 → EachWithin vars cs → map token (flat_map words_of (lines rest)) ≡ map Some ts
+clauses_tokens : (vars : ℕ) (cs : List Clause) (rest : List ℕ) (ts : List Token) → vars ≤ 99999999 → EachWithin vars cs → map token (flat_map words_of (lines rest)) ≡ map Some ts
     → map token (flat_map words_of (lines (flat_map clause_line cs ++ rest))) ≡ map Some (map Number (flat_map ended cs) ++ ts)
 clauses_tokens vars [] rest ts v h e = e
 clauses_tokens vars (c ∷ cs) rest ts v h e =
@@ -57,17 +57,17 @@ clauses_tokens vars (c ∷ cs) rest ts v h e =
     ∙ sym (map-append Some (map Number (ended c)) (map Number (flat_map ended cs) ++ ts))
     ∙ ap (map Some) (sym (append_assoc (map Number (ended c)) (map Number (flat_map ended cs)) ts) ∙ ap (λ x. x ++ ts) (sym (map-append Number (ended c) (flat_map ended cs))))
 
-cube_words : (vars : ℕ) (c : Cube) → vars ≤ 1000000 → AllByRecursion (IsWithin vars) c → words_of (codes "a " ++ clause_text c) ≡ codes "a" ∷ map signed_decimal (ended c)
+cube_words : (vars : ℕ) (c : Cube) → vars ≤ 99999999 → AllByRecursion (IsWithin vars) c → words_of (codes "a " ++ clause_text c) ≡ codes "a" ∷ map signed_decimal (ended c)
 cube_words vars c v h = words_plain (codes "a") (clause_text c) (refl, tt) (omega arith) ∙ ap (λ ws. codes "a" ∷ ws) (clause_words vars c v h)
 
-cube_line_words : (vars : ℕ) (c : Cube) (rest : List ℕ) → vars ≤ 1000000 → AllByRecursion (IsWithin vars) c → flat_map words_of (lines (cube_line c ++ rest)) ≡ (codes "a" ∷ map signed_decimal (ended c)) ++ flat_map words_of (lines rest)
+cube_line_words : (vars : ℕ) (c : Cube) (rest : List ℕ) → vars ≤ 99999999 → AllByRecursion (IsWithin vars) c → flat_map words_of (lines (cube_line c ++ rest)) ≡ (codes "a" ∷ map signed_decimal (ended c)) ++ flat_map words_of (lines rest)
 cube_line_words vars c rest v h =
     let regroup : cube_line c ++ rest ≡ (codes "a " ++ clause_text c) ++ 10 ∷ rest = ap (λ t. codes "a " ++ t) (append_assoc (clause_text c) (10 ∷ []) rest) in
     let plain : AllByRecursion (λ b. eqb b 10 ≡ false) (codes "a " ++ clause_text c) = (refl, (refl, no_end (clause_text c) (clause_plain vars c v h))) in
     ap (λ t. flat_map words_of (lines t)) regroup ∙ ap (flat_map words_of) (lines_line (codes "a " ++ clause_text c) rest plain)
     ∙ ap (λ ws. ws ++ flat_map words_of (lines rest)) (cube_words vars c v h)
 
-cubes_tokens : (vars : ℕ) (cs : List Cube) → vars ≤ 1000000 → EachWithin vars cs → map token (flat_map words_of (lines (flat_map cube_line cs))) ≡ map Some (flat_map cube_tokens cs)
+cubes_tokens : (vars : ℕ) (cs : List Cube) → vars ≤ 99999999 → EachWithin vars cs → map token (flat_map words_of (lines (flat_map cube_line cs))) ≡ map Some (flat_map cube_tokens cs)
 unfolding words
 cubes_tokens vars [] v h = refl
 cubes_tokens vars (c ∷ cs) v h =
@@ -89,7 +89,7 @@ header_words = refl
 pub writing_spells : (L : Limits) (f : Cnf) (cubes : List Cube) → IsFormula f → FitsIn L f → IsTree cubes → AreWithin (greatest_in f.clauses) cubes → SpellsWithin L (spelling f.clauses cubes) (formula_of f.clauses) cubes
 writing_spells L f cubes is fits tree near =
     let top = clauses_greatest f.vars f.clauses is.within in
-    let small : greatest_in f.clauses ≤ 1000000 = omega (arith, is.vars) in
+    let small : greatest_in f.clauses ≤ 99999999 = omega (arith, is.vars) in
     let body = flat_map clause_line f.clauses ++ flat_map cube_line cubes in
     let plain : AllByRecursion (λ b. eqb b 10 ≡ false) (codes "p inccnf") = (refl, (refl, (refl, (refl, (refl, (refl, (refl, (refl, tt)))))))) in
     let l : lines (spelling f.clauses cubes) ≡ codes "p inccnf" ∷ lines body = lines_line (codes "p inccnf") body plain in

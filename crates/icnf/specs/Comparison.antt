@@ -1,11 +1,11 @@
--- What is known of clauses that are compared with a formula's as they are read, and not stored.
+-- Clauses that are compared with a formula's as they are read, and not stored: what is known of them.
 use Rattle.std.specs.Prelude.{ℕ, ◌==◌, ◌&&◌, Bool, true, false, List, [], ◌∷◌, length, slice_index_or}
 use Rattle.dimacs.specs.layout.BuilderState.{BuilderState}
 use Rattle.dimacs.specs.logic.Cnf.{greatest_in, greatest_of}
 use Rattle.dimacs.specs.logic.Literal.{Clause, same}
 
--- the number of ended clauses, of the open one's literals and of all literals; the greatest variable of the ended clauses and of the
--- open one; whether the ended clauses are the formula's first ones, and whether its next one begins with the open one's literals
+-- The number of ended clauses, of the open one's literals, and of all literals; the greatest variable of the ended clauses, and of the open
+-- one; whether the ended clauses are the formula's first ones, and whether its next one begins with the open one's literals.
 pub record Compared : Type 0 where
   pub count : ℕ
   pub at : ℕ
@@ -15,23 +15,23 @@ pub record Compared : Type 0 where
   pub agrees : Bool
   pub open_agrees : Bool
 
--- whether a clause begins with these literals
+-- whether the second clause begins with the literals of the first one
 abbrev pub begins_with : Clause → Clause → Bool
 begins_with [] c = true
 begins_with (l ∷ ls) [] = false
 begins_with (l ∷ ls) (k ∷ c) = same k l && begins_with ls c
 
--- whether a clause is this one
+-- whether the two clauses are the same list of literals
 abbrev pub is_clause : Clause → Clause → Bool
 is_clause d c = begins_with d c && (length d == length c)
 
--- whether a formula's clauses begin with these ones
+-- whether the list clauses begins with the clauses done
 abbrev pub agree : List Clause → List Clause → Bool
 agree clauses [] = true
 agree [] (d ∷ done) = false
 agree (c ∷ clauses) (d ∷ done) = is_clause d c && agree clauses done
 
--- what is known of clauses that were read
+-- what is known of the clauses in a builder's state b, compared with the list clauses
 abbrev pub compared : List Clause → BuilderState → Compared
 compared clauses b = record {
   count = length b.done;

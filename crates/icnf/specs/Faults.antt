@@ -1,9 +1,9 @@
--- The numbers of faults.
+-- The numbers of the faults of an iCNF text.
 use Rattle.std.specs.Prelude.{ℕ}
 use Rattle.icnf.specs.declared.fault.Kind.{Kind}
 use Rattle.icnf.specs.declared.fault.Kind.TheVariants.{NoHeader, BadHeader, BadToken, VariableAboveClauses, ClauseNotEnded, AboveLimit, NoMemory, ClauseBehindCube, RepeatedVariable, NotATree, CubeTooLong}
 
--- the fault number that is printed
+-- the fault number that is printed, from 1 to 13
 abbrev pub number_of_kind : Kind → ℕ
 number_of_kind NoHeader = 1
 number_of_kind BadHeader = 2

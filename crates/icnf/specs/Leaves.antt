@@ -1,4 +1,4 @@
--- Splitting trees, by the cubes of their leaves.
+-- Splitting trees, as the cubes of their leaves.
 use Rattle.std.specs.Prelude.{◌≢◌, ℕ, zero, suc, ◌≤◌, List, [], ◌∷◌, ◌++◌, length, All}
 use Rattle.dimacs.specs.logic.Literal.{Literal, Pos, Neg, negation, var_of}
 
@@ -6,23 +6,24 @@ use Rattle.dimacs.specs.logic.Literal.{Literal, Pos, Neg, negation, var_of}
 abbrev pub Cube : Type 0
 Cube = List Literal
 
--- no literal of the path is of this variable
+-- no literal of the path is of the variable v
 abbrev pub IsFree : Cube → ℕ → Type 0
 IsFree path v = All (λ l. var_of l ≢ v) path
 
--- the leaves below a path, from left to right: the path itself, or the leaves below a literal and then those below its negation
+-- the cubes are the leaves below the path, from left to right: the path itself, or the leaves below a literal and then those below its
+-- negation
 pub data Leaves : Cube → List Cube → Type 0 where
   leaf : {path : Cube} → Leaves path (path ∷ [])
   fork : {path : Cube} {left right : List Cube} (x : Literal) → IsFree path (var_of x)
       → Leaves (path ++ x ∷ []) left → Leaves (path ++ negation x ∷ []) right → Leaves path (left ++ right)
 
--- the cubes of a tree's leaves, within the limits
+-- the cubes are those of a tree's leaves, from left to right, within the limits
 pub record IsTree (cubes : List Cube) : Type 0 where
   pub leaves : Leaves [] cubes
   pub count : length cubes ≤ 65536
   pub short : All (λ c. length c ≤ 64) cubes
 
--- the cubes, with cube i replaced by its two branches: on the variable, and on its negation
+-- the cubes, with cube i (from 0) replaced by its two branches: on the variable v, and on its negation
 abbrev pub branched : ℕ → ℕ → List Cube → List Cube
 branched i v [] = []
 branched zero v (c ∷ cubes) = (c ++ Pos v ∷ []) ∷ (c ++ Neg v ∷ []) ∷ cubes

@@ -3,7 +3,7 @@ use Rattle.dimacs.specs.layout.BuilderState.{BuilderState}
 use Rattle.dimacs.specs.logic.Limits.{Limits}
 use Rattle.icnf.specs.Walk.{WalkState}
 
--- the limits, the clauses, and the cubes
+-- the limits, the clauses read so far, and the cubes read so far
 pub record ReadState : Type 0 where
   pub limits : Limits
   pub clauses : BuilderState

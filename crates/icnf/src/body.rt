@@ -20,10 +20,13 @@ use dimacs::{Builder, Formula, Limits, Lit};
 use std::alloc::{AllocError, Global};
 use std::marker::Model;
 
-/// The limits, and the clauses and the cubes read so far.
+/// The state of the iCNF parser after the header.
 pub(crate) struct Body {
+    /// The limits of the formula.
     limits: Limits,
+    /// The clauses read so far.
     clauses: Builder,
+    /// The cubes read so far.
     walk: Walk,
 }
 
@@ -48,7 +51,7 @@ impl Model for Body {
     ghost invariant = { λ b. IsRead (record { limits = b.limits; clauses = b.clauses; walk = b.walk }) };
 }
 
-/// Whether a token is `a`.
+/// Answers whether a token is `a`.
 pub(crate) fn is_mark(word: &[u8]) -> bool
     ensures { result ≡ bytes_eq word.now (codes "a") }
 {
@@ -56,7 +59,7 @@ pub(crate) fn is_mark(word: &[u8]) -> bool
 }
 
 impl Body {
-    /// No token of the body has been read.
+    /// A state before the first token of the body.
     fn new(alloc: Global, limits: Limits) -> Result<Body, AllocError>
         ensures { IfOk result (λ b. b ≡ start limits) }
     {
@@ -76,7 +79,7 @@ impl Body {
         begin_cube(&mut self.walk, line)
     }
 
-    /// Reads an `a`.
+    /// Reads an `a`, which begins a cube. Within a clause or a cube it is `BadToken`, after the tree's last cube `NotATree`.
     fn read_mark(&mut self, line: u64) -> Result<(), IcnfFault>
         ensures { Gives no_memory self.new result (read_mark line self.old.walk.stage self.old) }
     {
@@ -97,8 +100,8 @@ impl Body {
     /// Appends a literal to the open clause.
     fn push(&mut self, literal: Lit) -> Result<(), AllocError>
         requires clauses { self.old.walk.stage ≡ Stage.Clauses }
-        requires room { self.old.clauses.total < 50000000 }
-        requires within { var_of literal ≤ 1000000 }
+        requires room { self.old.clauses.total < 999999999 }
+        requires within { var_of literal ≤ 99999999 }
         ensures { OnOk result (self.new ≡ record self.old { clauses = record self.old.clauses { open_clause = self.old.clauses.open_clause ++ literal ∷ []; total = self.old.clauses.total + 1 } }) }
     {
         self.clauses.push(literal)?;
@@ -108,14 +111,14 @@ impl Body {
     /// Ends the open clause.
     fn end_clause(&mut self) -> Result<(), AllocError>
         requires clauses { self.old.walk.stage ≡ Stage.Clauses }
-        requires room { length self.old.clauses.done < 4000000 }
+        requires room { length self.old.clauses.done < 99999999 }
         ensures { OnOk result (self.new ≡ record self.old { clauses = record self.old.clauses { done = self.old.clauses.done ++ self.old.clauses.open_clause ∷ []; open_clause = [] } }) }
     {
         self.clauses.end_clause()?;
         Ok(())
     }
 
-    /// Reads a number in a clause.
+    /// Reads a number in a clause: a literal, or the 0 that ends the clause. Beyond a limit it is `AboveLimit`.
     fn in_clause(&mut self, line: u64, number: Number) -> Result<(), IcnfFault>
         requires { self.old.walk.stage ≡ Stage.Clauses }
         ensures { (z : ℤ) → number ≡ capped z → Gives no_memory self.new result (in_clause line z self.old) }
@@ -142,7 +145,7 @@ impl Body {
         Ok(())
     }
 
-    /// Ends a cube.
+    /// Ends the open cube; `NotATree` if a literal must still follow.
     fn end_cube(&mut self, line: u64) -> Result<(), IcnfFault>
         requires { self.old.walk.stage ≡ Stage.Inside }
         ensures { Gives no_memory self.new result (end_cube line self.old.walk.forced self.old) }
@@ -150,7 +153,8 @@ impl Body {
         end_cube(&mut self.walk, line)
     }
 
-    /// Reads a literal in a cube.
+    /// Reads a literal of the open cube; a fault if it repeats a variable, is not the one that must
+    /// come, or is the 65th.
     fn literal_in_cube(&mut self, line: u64, literal: Lit) -> Result<(), IcnfFault>
         requires { self.old.walk.stage ≡ Stage.Inside }
         ensures { Gives no_memory self.new result (literal_in_cube line literal self.old) }
@@ -158,7 +162,7 @@ impl Body {
         read_literal(&mut self.walk, line, literal)
     }
 
-    /// Reads a number in a cube.
+    /// Reads a number in a cube: a literal, or the 0 that ends the cube. A variable above those of the clauses is `VariableAboveClauses`.
     fn in_cube(&mut self, line: u64, number: Number) -> Result<(), IcnfFault>
         requires { self.old.walk.stage ≡ Stage.Inside }
         ensures { (z : ℤ) → number ≡ capped z → Gives no_memory self.new result (in_cube line z self.old) }
@@ -175,7 +179,7 @@ impl Body {
         self.literal_in_cube(line, number.literal())
     }
 
-    /// Reads a number.
+    /// Reads a number, in a clause or in a cube. Between two cubes and after the last one it is `ClauseBehindCube`.
     fn read_number(&mut self, line: u64, number: Number) -> Result<(), IcnfFault>
         ensures { (z : ℤ) → number ≡ capped z → Gives no_memory self.new result (read_number line z self.old.walk.stage self.old) }
     {
@@ -189,7 +193,7 @@ impl Body {
         }
     }
 
-    /// Reads a token.
+    /// Reads a token, `a` or a number; another one is `BadToken`.
     fn read_token(&mut self, line: u64, word: &[u8]) -> Result<(), IcnfFault>
         ensures { Gives no_memory self.new result (read_token line word.now self.old) }
     {
@@ -205,6 +209,7 @@ impl Body {
         self.read_number(line, number)
     }
 
+    /// Reads the tokens of a line.
     fn read_words(&mut self, line: u64, text: &[u8]) -> Result<(), IcnfFault>
         ensures { Gives no_memory self.new result (read_words format line (words text.now) self.old) }
     {
@@ -228,6 +233,7 @@ impl Rows for Body {
 
     ghost no_memory = { reading.no_memory };
 
+    /// The fault `NoHeader` in the text's last line.
     fn no_header(lines: u64) -> IcnfFault {
         IcnfFault {
             kind: Kind::NoHeader,
@@ -235,11 +241,13 @@ impl Rows for Body {
         }
     }
 
+    /// Reads the header `p inccnf`.
     fn begin(alloc: Global, limits: Limits, line: u64, header: &[u8]) -> Result<Body, IcnfFault> {
         read_header(line, header)?;
         Ok(Body::new(alloc, limits)?)
     }
 
+    /// Reads the tokens of a line after the header; a comment has none.
     #[tactic(auto, unfolding(dimacs::specs::text::Rows::read_words))]
     fn read_line(&mut self, line: u64, text: &[u8]) -> Result<(), IcnfFault> {
         if is_comment(text) {
@@ -248,6 +256,7 @@ impl Rows for Body {
         self.read_words(line, text)
     }
 
+    /// Ends the text: makes the formula and the tree, if the last cube was the last leaf of a tree.
     #[tactic(auto, unfolding(crate::specs::Parser::finish))]
     fn finish(self, lines: u64) -> Result<(Formula, Tree), IcnfFault> {
         let Body {

@@ -1,4 +1,4 @@
-//! A builder of trees, leaf by leaf.
+//! The builder of trees, leaf by leaf.
 
 ghost use Rattle.std.specs.Prelude.{◌≡◌, ◌<◌, ◌≤◌, [], ◌∷◌, ◌++◌, length, OnOk, OnErr};
 ghost use Rattle.icnf.specs.Leaves.{Leaves};
@@ -9,10 +9,12 @@ use dimacs::Lit;
 use std::alloc::{AllocError, Global};
 use std::marker::Model;
 
-/// Builds a tree: the cubes of its leaves so far, from left to right.
+/// Builds a tree: it holds the cubes of its leaves so far, from left to right.
 #[derive(Drop)]
 pub struct TreeBuilder {
+    /// The literals of the cubes.
     literals: Vec<Lit>,
+    /// The span of each cube in `literals`.
     spans: Vec<Span>,
 }
 
@@ -31,7 +33,7 @@ impl Model for TreeBuilder {
 }
 
 impl TreeBuilder {
-    /// No leaf yet.
+    /// A builder without leaves.
     pub fn new(alloc: Global) -> TreeBuilder
         ensures { result ≡ [] }
     {
@@ -41,7 +43,7 @@ impl TreeBuilder {
         }
     }
 
-    /// Appends the cube of the next leaf. If memory is refused, the builder is unchanged.
+    /// Appends the cube of the next leaf. If memory is refused, the builder is as before.
     pub fn push(&mut self, cube: &[Lit]) -> Result<(), AllocError>
         requires room { length self.old < 65536 }
         requires short { length cube.now ≤ 64 }
@@ -51,7 +53,7 @@ impl TreeBuilder {
         span::push_literals(&mut self.literals, &mut self.spans, cube)
     }
 
-    /// The tree, if the cubes are all its leaves.
+    /// Makes the tree. The caller knows that the cubes are all its leaves.
     pub fn finish(self) -> Tree
         requires { Leaves [] self }
         ensures { result ≡ self }

@@ -1,4 +1,4 @@
-//! Compares a text's clauses with a formula's as they are read, and stores none.
+//! Comparing a text's clauses with a formula's as they are read; none is stored.
 
 ghost use Rattle.std.specs.Prelude.{◌≡◌, ◌≢◌, ◌<◌, ◌≤◌, ◌==◌, ◌&&◌, [], length, slice_index_or, MatchBool};
 ghost use Rattle.dimacs.specs.logic.Literal.{var_of};
@@ -7,16 +7,22 @@ ghost use Rattle.icnf.specs.inner.Comparison.{has_at, ends_at, none_compared, wi
 use dimacs::{Formula, Lit};
 use std::marker::Model;
 
-/// What is known of the clauses that were read: the number that have ended, the literals of the open one and of all, the greatest
-/// variable of the ended ones and of the open one, and whether each of these two parts agrees with the formula.
+/// What is known of the clauses that were read: those that have ended, and the open one.
 #[derive(Drop)]
 pub(crate) struct Comparison {
+    /// The number of clauses that have ended.
     count: u32,
+    /// The number of literals of the open clause.
     at: u32,
+    /// The number of literals of all clauses, with those of the open one.
     total: u32,
+    /// The greatest variable of the clauses that have ended; 0 if they have no literal.
     greatest: u32,
+    /// The greatest variable of the open clause; 0 if it has no literal.
     open_greatest: u32,
+    /// Whether the clauses that have ended are the first ones of the formula.
     agrees: bool,
+    /// Whether the formula's next clause begins with the literals of the open clause.
     open_agrees: bool,
 }
 
@@ -31,7 +37,8 @@ impl Model for Comparison {
     ghost invariant = { λ c. AreCounted (record { count = c.count; at = c.at; total = c.total; greatest = c.greatest; open_greatest = c.open_greatest; agrees = c.agrees; open_agrees = c.open_agrees }) };
 }
 
-/// The formula's clause at this index, from 0; the empty clause if there is none.
+/// Lends the formula's clause of index `i`, from 0; the empty clause if the text has more clauses
+/// than the formula, so that the comparison fails there.
 #[inline(always)]
 fn clause_at(formula: &Formula, i: usize) -> &[Lit]
     ensures { result.now ≡ slice_index_or formula.now.clauses i [] }
@@ -43,7 +50,7 @@ fn clause_at(formula: &Formula, i: usize) -> &[Lit]
     }
 }
 
-/// Whether a clause has this literal at this index.
+/// Answers whether a clause has this literal at index `at`, from 0.
 #[inline(always)]
 fn has_at(clause: &[Lit], at: usize, literal: Lit) -> bool
     ensures { result ≡ has_at clause.now at literal }
@@ -51,7 +58,7 @@ fn has_at(clause: &[Lit], at: usize, literal: Lit) -> bool
     at < clause.len() && clause[at] == literal
 }
 
-/// Whether the formula has a clause at this index, from 0, and the clause has that many literals.
+/// Answers whether the formula has a clause of index `i`, from 0, and this clause has `len` literals.
 fn ends_at(formula: &Formula, i: usize, len: usize) -> bool
     ensures { result ≡ ends_at formula.now.clauses i len }
 {
@@ -59,7 +66,7 @@ fn ends_at(formula: &Formula, i: usize, len: usize) -> bool
 }
 
 impl Comparison {
-    /// No literal has been read.
+    /// A comparison before the first literal.
     pub(crate) fn new() -> Comparison
         ensures { result ≡ none_compared }
     {
@@ -74,12 +81,12 @@ impl Comparison {
         }
     }
 
-    /// Reads a literal of the open clause.
+    /// Compares the next literal of the open clause with the formula's literal at that place.
     #[inline(always)]
     #[tactic(auto, unfolding(crate::specs::inner::Comparison::with_literal))]
     pub(crate) fn push(&mut self, formula: &Formula, literal: Lit)
-        requires room { self.old.total < 50000000 }
-        requires within { var_of literal ≤ 1000000 }
+        requires room { self.old.total < 999999999 }
+        requires within { var_of literal ≤ 99999999 }
         ensures { self.new ≡ with_literal formula.now.clauses literal self.old }
     {
         let clause = clause_at(formula, self.count as usize);
@@ -89,10 +96,10 @@ impl Comparison {
         self.open_greatest = self.open_greatest.max(literal.var().number());
     }
 
-    /// Ends the open clause.
+    /// Ends the open clause: it has to have as many literals as the formula's clause.
     #[tactic(auto, unfolding(crate::specs::inner::Comparison::with_end))]
     pub(crate) fn end_clause(&mut self, formula: &Formula)
-        requires { self.old.count < 4000000 }
+        requires { self.old.count < 99999999 }
         ensures { self.new ≡ with_end formula.now.clauses self.old }
     {
         self.agrees = self.agrees
@@ -105,36 +112,37 @@ impl Comparison {
         self.open_greatest = 0;
     }
 
-    /// The number of clauses that have ended.
+    /// Answers the number of clauses that have ended.
     pub(crate) fn len(&self) -> usize
         ensures { result ≡ self.now.count }
     {
         self.count as usize
     }
 
-    /// The number of literals in all.
+    /// Answers the number of literals of all clauses, with those of the open one.
     pub(crate) fn literals(&self) -> usize
         ensures { result ≡ self.now.total }
     {
         self.total as usize
     }
 
-    /// Whether the open clause has literals.
+    /// Answers whether the open clause has a literal.
     pub(crate) fn is_open(&self) -> bool
         ensures { MatchBool result (0 < self.now.at) (self.now.at ≡ 0) }
     {
         self.at > 0
     }
 
-    /// The greatest variable of the clauses that have ended, at most 1,000,000; 0 if they have no literal.
+    /// Answers the greatest variable of the clauses that have ended, at most 99,999,999; 0 if they
+    /// have no literal. A cube's variables may not exceed it.
     pub(crate) fn greatest(&self) -> u32
         ensures value { result ≡ self.now.greatest }
-        ensures limit { result ≤ 1000000 }
+        ensures limit { result ≤ 99999999 }
     {
         self.greatest
     }
 
-    /// Whether the clauses are all those of the formula.
+    /// Answers whether the clauses that have ended are all those of the formula.
     pub(crate) fn is_whole(&self, formula: &Formula) -> bool
         ensures { result ≡ self.now.agrees && (self.now.count == length formula.now.clauses) }
     {

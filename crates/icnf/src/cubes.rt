@@ -1,4 +1,4 @@
-//! Reads the tokens of cubes: each step, or the fault that it meets.
+//! Reading the tokens of cubes: each function takes one token, or answers the fault that it has.
 
 ghost use Rattle.std.specs.Prelude.{◌≡◌, ◌≢◌};
 ghost use Rattle.dimacs.specs.inner.Rows.{Gives};
@@ -9,7 +9,7 @@ use crate::fault::{IcnfFault, Kind};
 use crate::walk::{Stage, Walk};
 use dimacs::Lit;
 
-/// Begins a cube.
+/// Takes the `a` that begins a cube; a 65,537th cube is the fault `AboveLimit`.
 #[tactic(auto, unfolding(crate::specs::inner::Cubes::begin_cube))]
 pub(crate) fn begin_cube(walk: &mut Walk, line: u64) -> Result<(), IcnfFault>
     requires { walk.old.stage ≢ Stage.Complete }
@@ -25,7 +25,7 @@ pub(crate) fn begin_cube(walk: &mut Walk, line: u64) -> Result<(), IcnfFault>
     Ok(())
 }
 
-/// Ends a cube.
+/// Takes the 0 that ends a cube; `NotATree` if a literal must still follow.
 #[tactic(auto, unfolding(crate::specs::inner::Cubes::end_cube))]
 pub(crate) fn end_cube(walk: &mut Walk, line: u64) -> Result<(), IcnfFault>
     requires { walk.old.stage ≡ Stage.Inside }
@@ -41,7 +41,8 @@ pub(crate) fn end_cube(walk: &mut Walk, line: u64) -> Result<(), IcnfFault>
     Ok(())
 }
 
-/// Reads a literal in a cube.
+/// Takes a literal of a cube. A second literal of a variable is `RepeatedVariable`, a literal other than the one that must come is
+/// `NotATree`, and a 65th literal is `CubeTooLong`.
 #[tactic(auto, unfolding(crate::specs::inner::Cubes::read_literal))]
 pub(crate) fn read_literal(walk: &mut Walk, line: u64, literal: Lit) -> Result<(), IcnfFault>
     requires { walk.old.stage ≡ Stage.Inside }

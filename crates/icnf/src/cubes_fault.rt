@@ -9,7 +9,7 @@ pub enum CubesFault {
     /// The text is not iCNF, or memory was refused.
     #[error("{0}")]
     Faulty(IcnfFault),
-    /// The text's clauses are not the formula's, which are compared as lists of literals, in order.
+    /// The text's clauses are not the formula's. They are compared as lists of literals, in order.
     #[error("the cubes are of another formula")]
     OtherFormula,
 }

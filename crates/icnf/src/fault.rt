@@ -1,4 +1,4 @@
-//! The faults of iCNF texts.
+//! The faults of iCNF texts, and their numbers.
 
 ghost use Rattle.std.specs.Prelude.{◌≡◌};
 ghost use Rattle.icnf.specs.Faults.{number_of_kind};
@@ -7,7 +7,7 @@ ghost use Rattle.icnf.specs.Parser.{no_memory};
 use std::alloc::{AllocError, AllocFailed};
 use thiserror::Error;
 
-/// What is wrong. The first faulty token decides. If it has several faults, the first one in this list decides, except that
+/// What is wrong with a text. The first faulty token decides. If it has several faults, the first one in this list decides, except that
 /// `AboveLimit` for a 65,537th cube comes after `NotATree`.
 #[derive(Clone, Copy, Debug, PartialEq, Eq, Error)]
 pub enum Kind {
@@ -23,7 +23,7 @@ pub enum Kind {
     /// After the first cube, a number stands outside a cube.
     #[error("a clause stands behind a cube")]
     ClauseBehindCube,
-    /// A variable above 1,000,000, or more than 4,000,000 clauses, 50,000,000 literals of clauses or 65,536 cubes.
+    /// A variable, or the number of clauses or of their literals, is above its limit, or there are more than 65,536 cubes.
     #[error("the text is above a limit")]
     AboveLimit,
     /// A variable of a cube is above the greatest variable of the clauses.
@@ -48,7 +48,7 @@ pub enum Kind {
 }
 
 impl Kind {
-    /// The fault number that is printed, from 1 to 13.
+    /// Answers the fault number that is printed, from 1 to 13.
     pub fn number(self) -> u8
         ensures { result ≡ number_of_kind self }
     {
@@ -73,12 +73,14 @@ impl Kind {
 #[derive(Clone, Copy, Debug, PartialEq, Eq, Error)]
 #[error("line {line}: {kind}")]
 pub struct IcnfFault {
+    /// What is wrong.
     pub kind: Kind,
+    /// The line, from 1; 0 for `NoMemory`.
     pub line: u64,
 }
 
 impl IcnfFault {
-    /// The number of its kind.
+    /// Answers the number of the fault's kind, from 1 to 13.
     pub fn number(self) -> u8
         ensures { result ≡ number_of_kind self.kind }
     {

@@ -1,4 +1,4 @@
-//! The header of an iCNF text: `p inccnf`. One function reads one token.
+//! The header of an iCNF text: `p inccnf`. Each function reads one token, and lets the next function read the rest of the line.
 
 ghost use Rattle.std.specs.Prelude.{◌≡◌, bytes_eq};
 ghost use Rattle.dimacs.specs.text.Words.{words};
@@ -7,13 +7,14 @@ ghost use Rattle.icnf.specs.Parser.{read_header, header_two, header_end};
 use crate::fault::{IcnfFault, Kind};
 use dimacs::words::next_word;
 
+/// Answers whether a token is this text.
 fn is_word(word: &[u8], text: &[u8]) -> bool
     ensures { result ≡ bytes_eq word.now text.now }
 {
     word == text
 }
 
-/// Reads the rest of the line after the header's two tokens: any token there is a fault.
+/// Reads the rest of the line after the header's two tokens: any token there is the fault `BadHeader`.
 fn end_of_header(line: u64, text: &[u8]) -> Result<(), IcnfFault>
     ensures { result ≡ header_end line (words text.now) }
 {
@@ -26,7 +27,7 @@ fn end_of_header(line: u64, text: &[u8]) -> Result<(), IcnfFault>
     }
 }
 
-/// Reads the word `inccnf`.
+/// Reads the word `inccnf` and what follows it.
 fn format_of_header(line: u64, text: &[u8]) -> Result<(), IcnfFault>
     ensures { result ≡ header_two line (words text.now) }
 {

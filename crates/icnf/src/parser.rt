@@ -13,8 +13,8 @@ use dimacs::rows::read_text;
 use dimacs::{Formula, Limits};
 use std::alloc::Global;
 
-/// Reads a formula within these limits and the tree of its cubes, or returns the first fault of the text. The formula's number of
-/// variables is the greatest variable of its clauses.
+/// Reads a formula within these limits, and the tree of its cubes, from an iCNF text; an `Err` is the first fault of the text. The
+/// formula's number of variables is the greatest variable of its clauses.
 pub fn read_within(
     alloc: Global,
     limits: Limits,
@@ -31,7 +31,7 @@ pub fn read_within(
     read_text::<Body>(alloc, limits, bytes)
 }
 
-/// The same within the written limits.
+/// Reads a formula within the written limits, and the tree of its cubes, from an iCNF text; an `Err` is the first fault of the text.
 pub fn read(alloc: Global, bytes: &[u8]) -> Result<(Formula, Tree), IcnfFault>
     // The text spells the formula and the tree that are returned.
     ensures found { IfOk result (λ p. Spells bytes.now p.0 p.1) }

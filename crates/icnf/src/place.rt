@@ -1,10 +1,12 @@
-//! The decisions along a path of a splitting tree.
+//! A decision on a path of a splitting tree.
 
 use dimacs::Lit;
 
-/// A literal of a path, and whether the leaves below its negation are still to come.
+/// A decision on a path from the root of a splitting tree.
 #[derive(Clone, Copy)]
 pub(crate) struct Place {
+    /// The literal that the path takes.
     pub(crate) literal: Lit,
+    /// Whether the leaves below the literal's negation are still to come.
     pub(crate) is_open: bool,
 }

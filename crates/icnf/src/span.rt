@@ -1,4 +1,4 @@
-//! Cubes in one vector of literals, each a span of it.
+//! Cubes in one vector of literals: each cube is a span of the vector.
 
 ghost use Rattle.std.specs.Prelude.{◌≡◌, ◌+◌, ◌-◌, ◌^◌, ◌<◌, ◌≤◌, [], ◌∷◌, ◌++◌, length, slice_index_or, vec_len, vec_capacity, OnOk, OnErr};
 ghost use Rattle.icnf.specs.Leaves.{branched};
@@ -10,14 +10,16 @@ use crate::place::Place;
 use dimacs::{Lit, Var};
 use std::alloc::AllocError;
 
-/// Where a cube lies: the index of its first literal, and the index after its last.
+/// Where a cube lies in the vector of literals.
 #[derive(Clone, Copy)]
 pub(crate) struct Span {
+    /// The index of the cube's first literal.
     pub(crate) from: u32,
+    /// The index after the cube's last literal.
     pub(crate) to: u32,
 }
 
-/// Appends a cube and one more literal. The vector has the capacity.
+/// Appends the literals of the cube `leaf` and one more literal, and answers the span of the new cube. The vector has the capacity.
 fn append_branch(literals: &mut Vec<Lit>, leaf: Span, branch: Lit) -> Span
     requires leaf { IsSpan (vec_len literals.old) leaf }
     requires room { vec_len literals.old + (leaf.to - leaf.from + 1) ≤ vec_capacity literals.old }
@@ -39,7 +41,7 @@ fn append_branch(literals: &mut Vec<Lit>, leaf: Span, branch: Lit) -> Span
     }
 }
 
-/// Replaces cube `i` by its two branches on a variable. If memory is refused, the cubes are unchanged.
+/// Replaces cube `i` (from 0) by its two branches on a variable, the positive one first. If memory is refused, the cubes are as before.
 pub(crate) fn branch(
     literals: &mut Vec<Lit>,
     spans: &mut Vec<Span>,
@@ -65,7 +67,7 @@ pub(crate) fn branch(
     Ok(())
 }
 
-/// The cube at this index, from 0.
+/// Lends the literals of cube `i`, from 0.
 pub(crate) fn cube_at<'a>(literals: &'a [Lit], spans: &[Span], i: usize) -> &'a [Lit]
     requires lie { AreSpans literals.now spans.now }
     requires below { i < length spans.now }
@@ -75,7 +77,7 @@ pub(crate) fn cube_at<'a>(literals: &'a [Lit], spans: &[Span], i: usize) -> &'a 
     &literals[span.from as usize..span.to as usize]
 }
 
-/// Appends the cube of a path. If memory is refused, the cubes are unchanged.
+/// Appends the cube of a path of decisions. If memory is refused, the cubes are as before.
 pub(crate) fn push_cube(
     literals: &mut Vec<Lit>,
     spans: &mut Vec<Span>,
@@ -97,7 +99,7 @@ pub(crate) fn push_cube(
     Ok(())
 }
 
-/// Appends a cube. If memory is refused, the cubes are unchanged.
+/// Appends a cube. If memory is refused, the cubes are as before.
 pub(crate) fn push_literals(
     literals: &mut Vec<Lit>,
     spans: &mut Vec<Span>,
@@ -119,7 +121,7 @@ pub(crate) fn push_literals(
     Ok(())
 }
 
-/// Appends the literals of a path. The vector has the capacity.
+/// Appends the literals of a path of decisions. The vector has the capacity.
 fn append_literals(literals: &mut Vec<Lit>, path: &[Place])
     requires { vec_len literals.old + length path.now ≤ vec_capacity literals.old }
     ensures items { literals.new.items ≡ literals.old.items ++ literals_of path.now }

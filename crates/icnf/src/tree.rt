@@ -10,9 +10,11 @@ use dimacs::{Lit, Var};
 use std::alloc::{AllocError, Global};
 use std::marker::Model;
 
-/// A splitting tree, by the cubes of its leaves, from left to right: at most 65,536 leaves, with cubes of at most 64 literals.
+/// A splitting tree, as the cubes of its leaves, from left to right: at most 65,536 leaves, with cubes of at most 64 literals.
 pub struct Tree {
+    /// The literals of the cubes.
     literals: Vec<Lit>,
+    /// The span of each cube in `literals`.
     spans: Vec<Span>,
 }
 
@@ -40,7 +42,7 @@ impl Model for Tree {
 }
 
 impl Tree {
-    /// The tree of one leaf, whose cube is empty.
+    /// Makes the tree of a formula that is not split: one leaf, whose cube is empty.
     pub fn leaf(alloc: Global) -> Result<Tree, AllocError>
         ensures { IfOk result (λ t. t ≡ [] ∷ []) }
     {
@@ -52,6 +54,7 @@ impl Tree {
         })
     }
 
+    /// Makes a tree of the literals of its cubes and of their spans.
     pub(crate) fn from_parts(literals: Vec<Lit>, spans: Vec<Span>) -> Tree
         requires lie { AreSpans literals.items spans.items }
         requires leaves { Leaves [] (cubes_in literals.items spans.items) }
@@ -60,7 +63,7 @@ impl Tree {
         Tree { literals, spans }
     }
 
-    /// The number of leaves, from 1 to 65,536.
+    /// Answers the number of leaves, from 1 to 65,536.
     pub fn leaves(&self) -> usize
         ensures value { result ≡ length self.now }
         ensures above { 0 < result }
@@ -70,7 +73,7 @@ impl Tree {
         self.spans.len()
     }
 
-    /// The cube of the leaf at this index, from 0: the literals of its path, at most 64.
+    /// Lends the cube of leaf `i`, from 0: the literals of its path, at most 64.
     pub fn cube(&self, i: usize) -> &[Lit]
         requires { i < length self.now }
         ensures cube { result.now ≡ slice_index_or self.now i [] }
@@ -79,7 +82,7 @@ impl Tree {
         span::cube_at(&self.literals, &self.spans, i)
     }
 
-    /// A copy.
+    /// Makes a copy of the tree.
     pub fn copy(&self, alloc: Global) -> Result<Tree, AllocError>
         ensures { IfOk result (λ t. t ≡ self.now) }
     {
@@ -89,8 +92,8 @@ impl Tree {
         })
     }
 
-    /// Replaces leaf `i` by its two branches on a variable that its cube does not have, the positive one first. If memory is
-    /// refused, the tree is unchanged.
+    /// Replaces leaf `i` by its two branches on a variable that its cube does not have, the positive one first. If memory is refused, the
+    /// tree is as before.
     pub fn split(&mut self, i: usize, var: Var) -> Result<(), AllocError>
         requires leaf { i < length self.old }
         requires limit { length self.old < 65536 }

@@ -21,15 +21,18 @@ use dimacs::words::{is_comment, next_word};
 use dimacs::{Formula, Limits};
 use std::alloc::Global;
 
-/// The limits, how far the clauses agree with a formula's, and the cubes read so far.
+/// The state, after the header, of the parser that compares the clauses.
 #[derive(Drop)]
 pub(crate) struct TreeBody {
+    /// The limits of the formula.
     pub(crate) limits: Limits,
+    /// How far the clauses read so far agree with the formula's.
     pub(crate) clauses: Comparison,
+    /// The cubes read so far.
     pub(crate) walk: Walk,
 }
 
-/// Whether the first token of a text is `a`.
+/// Answers whether the first token of a text is `a`.
 fn begins_with_mark(text: &[u8]) -> bool
     ensures { (word : List ℕ) (more : List (List ℕ)) → words text.now ≡ word ∷ more → result ≡ bytes_eq word (codes "a") }
 {
@@ -40,7 +43,7 @@ fn begins_with_mark(text: &[u8]) -> bool
 }
 
 impl TreeBody {
-    /// No token of the body has been read.
+    /// A state before the first token of the body.
     pub(crate) fn new(alloc: Global, limits: Limits) -> TreeBody
         ensures { result ≡ none_read limits }
     {
@@ -59,7 +62,7 @@ impl TreeBody {
         begin_cube(&mut self.walk, line)
     }
 
-    /// Reads an `a`.
+    /// Reads an `a`, which begins a cube. Within a clause or a cube it is `BadToken`, after the tree's last cube `NotATree`.
     fn read_mark(&mut self, line: u64) -> Result<(), IcnfFault>
         ensures { Gives no_memory self.new result (take_mark line self.old.walk.stage self.old) }
     {
@@ -77,7 +80,7 @@ impl TreeBody {
         }
     }
 
-    /// Reads a number in a clause.
+    /// Reads a number in a clause: a literal, or the 0 that ends the clause. Beyond a limit it is `AboveLimit`.
     #[tactic(auto, unfolding(crate::specs::inner::TreeBody::take_in_clause))]
     fn in_clause(&mut self, formula: &Formula, line: u64, number: Number) -> Result<(), IcnfFault>
         ensures { (z : ℤ) → number ≡ capped z → Gives no_memory self.new result (take_in_clause formula.now.clauses line z self.old) }
@@ -104,7 +107,7 @@ impl TreeBody {
         Ok(())
     }
 
-    /// Reads a number in a cube.
+    /// Reads a number in a cube: a literal, or the 0 that ends the cube. A variable above those of the clauses is `VariableAboveClauses`.
     #[tactic(auto, unfolding(crate::specs::inner::TreeBody::take_in_cube))]
     fn in_cube(&mut self, line: u64, number: Number) -> Result<(), IcnfFault>
         requires { self.old.walk.stage ≡ Stage.Inside }
@@ -122,7 +125,7 @@ impl TreeBody {
         read_literal(&mut self.walk, line, number.literal())
     }
 
-    /// Reads a number.
+    /// Reads a number, in a clause or in a cube. Between two cubes and after the last one it is `ClauseBehindCube`.
     fn read_number(&mut self, formula: &Formula, line: u64, number: Number) -> Result<(), IcnfFault>
         ensures { (z : ℤ) → number ≡ capped z → Gives no_memory self.new result (take_number formula.now.clauses line z self.old.walk.stage self.old) }
     {
@@ -136,7 +139,8 @@ impl TreeBody {
         }
     }
 
-    /// Reads the first token of a text: `found` is its number, or `None` if it is no number.
+    /// Reads the first token of a text, `a` or a number; another one is `BadToken`. `found` is the token's number, or `None` if it is no
+    /// number.
     #[inline(always)]
     fn read_found(
         &mut self,
@@ -157,7 +161,7 @@ impl TreeBody {
         }
     }
 
-    /// Reads the tokens of a line. Not inlined, so that the loop over digits has the registers for itself.
+    /// Reads the tokens of a line. It is not inlined, so that the loop over digits has the registers for itself.
     #[inline(never)]
     fn read_words(&mut self, formula: &Formula, line: u64, text: &[u8]) -> Result<(), IcnfFault>
         ensures { Gives no_memory self.new result (read_words (format formula.now.clauses) line (words text.now) self.old) }
@@ -170,7 +174,7 @@ impl TreeBody {
         Ok(())
     }
 
-    /// Reads a line after the header.
+    /// Reads a line of this number (from 1) after the header.
     #[tactic(auto, unfolding(dimacs::specs::text::Rows::read_words))]
     pub(crate) fn read_line(
         &mut self,
@@ -186,7 +190,7 @@ impl TreeBody {
         self.read_words(formula, line, text)
     }
 
-    /// Whether the clauses are the formula's, and the tree, if the text ends after that many lines.
+    /// Answers whether the clauses are the formula's, and the tree, if the text ends after this number of lines.
     #[tactic(auto, unfolding(crate::specs::inner::TreeBody::finish))]
     pub(crate) fn finish(self, formula: &Formula, lines: u64) -> Result<(bool, Tree), IcnfFault>
         ensures { result ≡ finish formula.now.clauses lines self }

@@ -1,4 +1,4 @@
-//! A parser of iCNF texts for a given formula that takes one line at a time.
+//! The parser of an iCNF text for a given formula that takes one line at a time.
 
 ghost use Rattle.std.specs.Prelude.{◌≡◌, ℕ, ◌+◌, ◌∷◌, [], Option, None, MatchResult};
 ghost use Rattle.icnf.specs.Pieces.{TellsTree, read_behind};
@@ -16,12 +16,17 @@ use dimacs::{Formula, Limits};
 use lrat_text::TakesLines;
 use std::alloc::{AllocError, Global};
 
-/// The parser's state after the first lines of a text: the limits, the number of lines, and the body once the header was read.
+/// The parser's state after the first lines of a text.
 pub(crate) struct TreeLines {
+    /// The allocator for the tree.
     pub(crate) alloc: Global,
+    /// The limits of the text's formula.
     pub(crate) limits: Limits,
+    /// The given formula.
     pub(crate) formula: Formula,
+    /// The number of lines that were read.
     pub(crate) count: u64,
+    /// The state after the header; `None` before it was read.
     pub(crate) body: Option<TreeBody>,
 }
 
@@ -37,7 +42,7 @@ impl Drop for TreeLines {
     }
 }
 
-/// Reads the line of this number, before, at or after the header.
+/// Reads the line of this number (from 1), before, at or after the header.
 fn read_line(
     alloc: Global,
     limits: Limits,
@@ -77,6 +82,7 @@ impl TakesLines for TreeLines {
 
     ghost refuses = { RefusesLine };
 
+    /// Reads the next line. A line whose number exceeds 64 bits is refused as `NoMemory`.
     fn take_line(&mut self, line: &[u8]) -> Result<(), IcnfFault> {
         match self.count.checked_add(1) {
             Some(count) => self.count = count,
@@ -94,7 +100,7 @@ impl TakesLines for TreeLines {
     }
 }
 
-/// The tree of a text that was read to its end, if its clauses are the formula's.
+/// Answers the tree of a text that was read to its end, or `OtherFormula` if its clauses are not the formula's, or the text's fault.
 fn told_of(read: Result<(bool, Tree), IcnfFault>) -> Result<Tree, CubesFault>
     ensures { result ≡ told_of read }
 {
@@ -106,7 +112,7 @@ fn told_of(read: Result<(bool, Tree), IcnfFault>) -> Result<Tree, CubesFault>
 }
 
 impl TreeLines {
-    /// No line has been read.
+    /// A parser that has read no line.
     pub(crate) fn new(alloc: Global, limits: Limits, formula: Formula) -> TreeLines
         ensures { result ≡ record { alloc = alloc; limits = limits; formula = formula; count = 0; body = None } }
     {
@@ -119,7 +125,7 @@ impl TreeLines {
         }
     }
 
-    /// The tree, if the text ends here.
+    /// Answers the tree if the text ends after the lines that were read, or the fault.
     fn end(self) -> Result<Tree, CubesFault>
         ensures { (s : Option ReadState) → IsKept self.formula s self.body → TellsTree self.formula (read_behind self.limits self.count s []) result }
     {
@@ -139,7 +145,7 @@ impl TreeLines {
         }
     }
 
-    /// The tree, if this is the text's last line.
+    /// Answers the tree if this is the text's last line, which has no LF, or the fault.
     pub(crate) fn finish(self, last: &[u8]) -> Result<Tree, CubesFault>
         ensures { (s : Option ReadState) → IsKept self.formula s self.body → TellsTree self.formula (read_behind self.limits self.count s (last.now ∷ [])) result }
     {

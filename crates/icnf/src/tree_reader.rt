@@ -1,4 +1,5 @@
-//! An incremental parser of iCNF texts for a given formula, which come in pieces and of which no clause is stored.
+//! The reader of a splitting tree from an iCNF text that comes in pieces. The text is read for a given formula, and none of its clauses is
+//! stored.
 
 ghost use Rattle.std.specs.Prelude.{◌≡◌, ℕ, List, [], ◌++◌, Result, IfOk, MatchResult};
 ghost use Rattle.dimacs.specs.logic.Cnf.{Cnf, AreWithin};
@@ -18,7 +19,7 @@ use lrat_text::{LineBuffer, PieceFault};
 use std::alloc::{AllocError, Global};
 use std::marker::Model;
 
-/// Reads the next piece, after the unfinished line.
+/// Reads the next piece, which continues the incomplete line `begun`.
 fn take_piece(begun: &mut LineBuffer, lines: &mut TreeLines, piece: &[u8]) -> Result<(), IcnfFault>
     ensures { MatchResult result
         (λ _. LeadsTo lines.old (begun.old ++ piece.now) lines.new begun.new)
@@ -31,11 +32,14 @@ fn take_piece(begun: &mut LineBuffer, lines: &mut TreeLines, piece: &[u8]) -> Re
     }
 }
 
-/// Reads the tree of a formula from an iCNF text in pieces. It compares the text's clauses with the formula's and stores none of
-/// them. It buffers no text except the unfinished line.
+/// Reads the tree of a formula from an iCNF text in pieces. It compares the text's clauses with the formula's and stores none of them. Of
+/// the text it stores only the incomplete line.
 pub struct TreeReader {
+    /// The parser's state after the complete lines.
     lines: TreeLines,
+    /// The incomplete line.
     begun: LineBuffer,
+    /// The first fault, once it was met; also a refusal of memory.
     fault: Option<IcnfFault>,
 }
 
@@ -58,14 +62,14 @@ impl Model for TreeReader {
 }
 
 impl TreeReader {
-    /// No byte has been read of a text within the written limits. The formula's clauses are shared, not copied.
+    /// A reader, which has read no byte, of a text within the written limits. The formula's clauses are shared, not copied.
     pub fn new(alloc: Global, formula: &Formula) -> Result<TreeReader, AllocError>
         ensures { IfOk result (λ r. HasRead formula.now r []) }
     {
         TreeReader::within(alloc, Limits::written(), formula)
     }
 
-    /// No byte has been read of a text within these limits. The formula's clauses are shared, not copied.
+    /// A reader, which has read no byte, of a text within these limits. The formula's clauses are shared, not copied.
     pub fn within(
         alloc: Global,
         limits: Limits,
@@ -93,8 +97,8 @@ impl TreeReader {
         }
     }
 
-    /// The tree of the pieces, if their clauses are the formula's. Otherwise the first fault of their text, or `OtherFormula` if it has
-    /// none.
+    /// Answers the tree of the pieces, if their clauses are the formula's. An `Err` is the first fault of their text, or `OtherFormula` if
+    /// it has none.
     pub fn finish(self) -> Result<Tree, CubesFault>
         // What is returned is true of the text, unless memory was refused.
         ensures exact { (L : Limits) (F : Cnf) (bytes : List ℕ) → HasReadWithin L F self bytes → TellsTree F (parse_within L bytes) result }
@@ -119,7 +123,7 @@ impl TreeReader {
     }
 }
 
-/// The tree of an iCNF text within these limits, if its clauses are the formula's. Otherwise the first fault of the text, or
+/// Reads the tree of an iCNF text within these limits, if its clauses are the formula's. An `Err` is the first fault of the text, or
 /// `OtherFormula` if it has none.
 pub fn tree_within(
     alloc: Global,
@@ -145,7 +149,8 @@ pub fn tree_within(
     }
 }
 
-/// The same within the written limits.
+/// Reads the tree of an iCNF text within the written limits, if its clauses are the formula's. An `Err` is the first fault of the text, or
+/// `OtherFormula` if it has none.
 pub fn tree_of(alloc: Global, formula: &Formula, text: &[u8]) -> Result<Tree, CubesFault>
     // What is returned is true of the text, unless memory was refused.
     ensures exact { TellsTree formula.now (parse text.now) result }

@@ -1,7 +1,7 @@
-//! Checks that cubes are the leaves of a tree, from left to right.
+//! The walk through a splitting tree: it tests that the cubes of a text are the leaves of a tree, from left to right.
 //!
-//! After a cube, the next one is forced up to the deepest decision whose other branch is still to come, takes that branch, and is free
-//! from there on.
+//! After a cube, the next one is forced up to the deepest decision whose other branch is still to come, takes that branch, and is free from
+//! there on.
 
 ghost use Rattle.std.specs.Prelude.{◌≡◌, ◌≢◌, ◌<◌, ◌≤◌, [], ◌∷◌, ◌++◌, length, true, false, MatchBool, OnOk, Some, None, vec_len};
 ghost use Rattle.dimacs.specs.logic.Literal.{var_of};
@@ -16,22 +16,31 @@ use dimacs::Lit;
 use std::alloc::{AllocError, Global};
 use std::marker::Model;
 
-/// The position in a text: among the clauses, between two cubes, in a cube, or after the tree's last cube.
+/// The position in a text.
 #[derive(Clone, Copy, Debug, PartialEq, Eq)]
 pub(crate) enum Stage {
+    /// Among the clauses, before the first cube.
     Clauses,
+    /// Between two cubes.
     Outside,
+    /// In a cube.
     Inside,
+    /// After the last cube of the tree.
     Complete,
 }
 
-/// The cubes read so far. The path holds the literals that were read of the open cube, and then those that must follow.
+/// The cubes read so far.
 #[derive(Drop)]
 pub(crate) struct Walk {
+    /// The position in the text.
     stage: Stage,
+    /// The literals of the cubes that have ended.
     literals: Vec<Lit>,
+    /// The span of each cube in `literals`.
     spans: Vec<Span>,
+    /// The decisions of the open cube: first those whose literals were read, then those that must follow.
     path: Vec<Place>,
+    /// The number of literals that were read of the open cube.
     at: usize,
 }
 
@@ -49,7 +58,8 @@ impl Model for Walk {
     ghost invariant = { λ w. (w.at ≤ vec_len w.path) × (vec_len w.path ≤ 64) × AreSpans w.literals.items w.spans.items × IsWalked w.stage w.path.items (cubes_in w.literals.items w.spans.items) };
 }
 
-/// Backtracks: turns the path of a cube into the forced prefix of the next cube. False, with an empty path, if no branch is missing.
+/// Backtracks: turns the path of a cube into the forced prefix of the next cube. Answers `false`, with an empty path, if no branch is
+/// missing.
 fn turn(path: &mut Vec<Place>) -> bool
     ensures shorter { vec_len path.new ≤ vec_len path.old }
     ensures front { MatchBool result (next_front path.old.items ≡ Some path.new.items) ((next_front path.old.items ≡ None) × (path.new.items ≡ [])) }
@@ -68,7 +78,7 @@ fn turn(path: &mut Vec<Place>) -> bool
 }
 
 impl Walk {
-    /// No cube has been read.
+    /// A walk before the first cube.
     pub(crate) fn new(alloc: Global) -> Walk
         ensures { result ≡ record { stage = Stage.Clauses; cubes = []; path = []; forced = [] } }
     {
@@ -81,27 +91,28 @@ impl Walk {
         }
     }
 
+    /// Answers the position in the text.
     pub(crate) fn stage(&self) -> Stage
         ensures { result ≡ self.now.stage }
     {
         self.stage
     }
 
-    /// The number of cubes that have ended.
+    /// Answers the number of cubes that have ended.
     pub(crate) fn cubes(&self) -> usize
         ensures { result ≡ length self.now.cubes }
     {
         self.spans.len()
     }
 
-    /// The number of literals that were read of the open cube.
+    /// Answers the number of literals that were read of the open cube.
     pub(crate) fn len(&self) -> usize
         ensures { result ≡ length self.now.path }
     {
         self.at
     }
 
-    /// Begins a cube.
+    /// Begins a cube at the root; the forced prefix that `turn` left has to come first.
     pub(crate) fn begin(&mut self)
         requires missing { self.old.stage ≢ Stage.Complete }
         requires room { length self.old.cubes < 65536 }
@@ -110,7 +121,7 @@ impl Walk {
         self.stage = Stage::Inside;
     }
 
-    /// Whether the open cube has a literal of this literal's variable.
+    /// Answers whether the open cube has a literal of this literal's variable.
     pub(crate) fn names(&self, literal: Lit) -> bool
         ensures { result ≡ names self.now.path (var_of literal) }
     {
@@ -123,21 +134,22 @@ impl Walk {
         false
     }
 
-    /// Whether this literal may come next in the open cube.
+    /// Answers whether this literal may come next in the open cube: it is the literal that must come, or none must.
     pub(crate) fn fits(&self, literal: Lit) -> bool
         ensures { result ≡ fits literal self.now.forced }
     {
         self.at == self.path.len() || self.path[self.at].literal == literal
     }
 
-    /// Whether the open cube may end here.
+    /// Answers whether the open cube may end here: no literal must follow.
     pub(crate) fn may_end(&self) -> bool
         ensures { MatchBool result (self.now.forced ≡ []) (0 < length self.now.forced) }
     {
         self.at == self.path.len()
     }
 
-    /// Appends a literal to the open cube.
+    /// Appends a literal to the open cube. A literal of the forced prefix is on the path already,
+    /// so only the position moves past it.
     pub(crate) fn push(&mut self, literal: Lit) -> Result<(), AllocError>
         requires inside { self.old.stage ≡ Stage.Inside }
         requires other { names self.old.path (var_of literal) ≡ false }
@@ -157,7 +169,8 @@ impl Walk {
         Ok(())
     }
 
-    /// Ends the open cube.
+    /// Ends the open cube: appends it to the tree, and backtracks to the forced prefix of the next
+    /// one.
     pub(crate) fn end(&mut self) -> Result<(), AllocError>
         requires inside { self.old.stage ≡ Stage.Inside }
         requires over { self.old.forced ≡ [] }
@@ -173,7 +186,7 @@ impl Walk {
         Ok(())
     }
 
-    /// The tree, after its last cube.
+    /// Makes the tree of the cubes, after the last one.
     pub(crate) fn finish(self) -> Tree
         requires { self.stage ≡ Stage.Complete }
         ensures { result ≡ self.cubes }

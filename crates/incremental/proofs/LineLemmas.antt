@@ -1,5 +1,5 @@
 -- The lines of LIDRUP text are read as they were meant.
-use Rattle.std.proofs.Common.{◌≡◌, ◌≢◌, ℕ, ◌+◌, ◌-◌, ◌≤◌, ◌==◌, true, false, not, List, [], ◌∷◌, ◌++◌, length, take, drop, get_or, Ok, codes, decimal, inl, inr, refl, sym, ◌∙◌, ap, subst, append_assoc, arith}
+use Rattle.std.proofs.Common.{◌≡◌, ◌≢◌, ℕ, ◌+◌, ◌-◌, ◌<◌, ◌≤◌, ◌^◌, ◌==◌, true, false, not, List, [], ◌∷◌, ◌++◌, length, take, drop, get_or, Ok, codes, decimal, inl, inr, refl, sym, ◌∙◌, ap, subst, append_assoc, arith}
 use Rattle.std.specs.List.{All, Contains, flat_map, list_all, slice_range}
 use Rattle.std.proofs.Math.Seq.{drop-append_seam, take-append_seam}
 use Rattle.std.proofs.lemmas.Bool.{and_parts, ne_eqb, not-true}
@@ -9,17 +9,17 @@ use Rattle.std.proofs.lemmas.List.Elements.{All-cons, All-nil, All-weaker, Conta
 use Rattle.dimacs.specs.logic.Literal.{Literal, Clause, IsWithin}
 use Rattle.dimacs.specs.logic.Rat.{Group}
 use Rattle.dimacs.proofs.Members.{Contains-cons, Contains-cons_cases}
-use Rattle.lrat_text.specs.Grammar.{IsClauseNumber, IsGroup, IsStep, literal_token}
+use Rattle.lrat_text.specs.Grammar.{IsClauseNumber, IsGroup, IsStepWithin, literal_token}
 use Rattle.lrat_text.specs.Lines.{IsOpen}
-use Rattle.lrat_text.specs.Parser.{step_in}
+use Rattle.lrat_text.specs.Parser.{step_within}
 use Rattle.lrat_text.specs.WrittenLine.{line_of, line_text, literals_text}
 use Rattle.lrat_text.specs.declared.step.Step.{Step}
 use Rattle.lrat_text.specs.declared.step.Step.TheVariants.{Add, Delete}
 use Rattle.lrat_text.specs.inner.LineParts.{number_text}
-use Rattle.lrat_text.proofs.LineLemmas.{written_one_line, written_spells}
-use Rattle.lrat_text.proofs.SpellingLemmas.{spelled_found}
+use Rattle.lrat_text.proofs.LineLemmas.{written_one_line_within, written_spells_within}
+use Rattle.lrat_text.proofs.SpellingLemmas.{spelled_found_within}
 use Rattle.lrat_text.proofs.WrittenLineLemmas.{line_addition, line_deletion}
-use Rattle.sessions.specs.Lines.{Asks, Deletes, Fails, Gives, Learns, Shows, body_of, line_in}
+use Rattle.sessions.specs.Lines.{Asks, Deletes, Fails, Gives, Learns, Shows, body_of, line_within}
 use Rattle.incremental.specs.inner.LidrupLines.{addition_text, core_text, deleted_text, given_text, learnt_text, listed_text}
 
 -- ---- bytes
@@ -77,8 +77,8 @@ pub deletion_long : (ids : List ℕ) → 3 ≤ length (codes "1 " ++ (deleted_te
 deletion_long ids = omega arith
 
 -- a step's line is read as that step
-pub step_read : (top : ℕ) (s : Step) → IsClauseNumber top → IsStep s → step_in (line_text top s) ≡ Ok s
-step_read top s n h = spelled_found (line_text top s) s (written_spells top s n h)
+pub step_read : (most : ℕ) → most < 2 ^ 48 → (top : ℕ) (s : Step) → IsClauseNumber top → IsStepWithin most s → step_within most (line_text top s) ≡ Ok s
+step_read most few top s n h = spelled_found_within most (line_text top s) s few (written_spells_within most few top s n h)
 
 pub one : IsClauseNumber 1
 one = (omega arith, omega arith)
@@ -91,21 +91,21 @@ bare_letter : (b : ℕ) (xs : List ℕ) → b ≢ 10 → ¬ (Contains xs 10) →
 bare_letter b xs apart none i = elim (Contains-cons_cases b 10 xs i) [ inl e ↦ apart e | inr j ↦ none j ]
 
 -- ---- clauses that are given
-module _ (id : ℕ) (C : Clause) (h : IsStep (Add id C [] [])) where
+module _ (most : ℕ) (few : most < 2 ^ 48) (id : ℕ) (C : Clause) (h : IsStepWithin most (Add id C [] [])) where
   given_line : line_text id (Add id C [] []) ≡ (decimal id ++ literals_text C) ++ codes " 0"
   given_line = addition_is id C [] ∙ sym (append_assoc (decimal id) (literals_text C) (codes " 0"))
 
-  pub given_read : line_in (given_text id C) ≡ Ok (Gives id C)
+  pub given_read : line_within most (given_text id C) ≡ Ok (Gives id C)
   given_read =
-      let e : step_in ((decimal id ++ literals_text C) ++ codes " 0") ≡ Ok (Add id C [] []) = ap step_in (sym given_line) ∙ step_read id (Add id C [] []) h.0 h in
+      let e : step_within most ((decimal id ++ literals_text C) ++ codes " 0") ≡ Ok (Add id C [] []) = ap (step_within most) (sym given_line) ∙ step_read most few id (Add id C [] []) h.0 h in
       rw e refl
 
   pub given_bare : IsOpen (given_text id C)
   given_bare = open_of (given_text id C) (bare_letter 105 (codes " " ++ (decimal id ++ literals_text C)) (λ e. cc) (bare_letter 32 (decimal id ++ literals_text C) (λ e. cc)
-      (bare_within [] (decimal id ++ literals_text C) (codes " 0") (subst (λ xs. ¬ (Contains xs 10)) given_line (written_one_line id (Add id C [] []) h.0 h)))))
+      (bare_within [] (decimal id ++ literals_text C) (codes " 0") (subst (λ xs. ¬ (Contains xs 10)) given_line (written_one_line_within most few id (Add id C [] []) h.0 h)))))
 
 -- ---- literals after a letter
-module _ (letter : ℕ) (lits : List Literal) (h : IsStep (Add 1 lits [] [])) where
+module _ (most : ℕ) (few : most < 2 ^ 48) (letter : ℕ) (lits : List Literal) (h : IsStepWithin most (Add 1 lits [] [])) where
   listed_line : line_text 1 (Add 1 lits [] []) ≡ codes "1" ++ (literals_text lits ++ codes " 0")
   listed_line = addition_is 1 lits [] ∙ ap (λ (x : List ℕ). x ++ (literals_text lits ++ codes " 0")) one_text
 
@@ -115,21 +115,21 @@ module _ (letter : ℕ) (lits : List Literal) (h : IsStep (Add 1 lits [] [])) wh
       let b = literals_begin lits in
       ap (λ (x : List ℕ). codes "1 " ++ body_of (letter ∷ x) ++ codes " 0") b.1 ∙ ap (λ (x : List ℕ). codes "1" ++ (x ++ codes " 0")) (sym b.1) ∙ sym listed_line
 
-  listed_step : step_in (codes "1 " ++ body_of (listed_text letter lits) ++ codes " 0") ≡ Ok (Add 1 lits [] [])
-  listed_step = ap step_in listed_body ∙ step_read 1 (Add 1 lits [] []) one h
+  listed_step : step_within most (codes "1 " ++ body_of (listed_text letter lits) ++ codes " 0") ≡ Ok (Add 1 lits [] [])
+  listed_step = ap (step_within most) listed_body ∙ step_read most few 1 (Add 1 lits [] []) one h
 
   pub listed_bare : letter ≢ 10 → IsOpen (listed_text letter lits)
   listed_bare apart = open_of (listed_text letter lits) (bare_letter letter (literals_text lits) apart
-      (bare_within (codes "1") (literals_text lits) (codes " 0") (subst (λ xs. ¬ (Contains xs 10)) listed_line (written_one_line 1 (Add 1 lits [] []) one h))))
+      (bare_within (codes "1") (literals_text lits) (codes " 0") (subst (λ xs. ¬ (Contains xs 10)) listed_line (written_one_line_within most few 1 (Add 1 lits [] []) one h))))
 
-pub asked_read : (A : List Literal) → IsStep (Add 1 A [] []) → line_in (listed_text 113 A) ≡ Ok (Asks A)
-asked_read A h = let e = listed_step 113 A h in rw e refl
+pub asked_read : (most : ℕ) → most < 2 ^ 48 → (A : List Literal) → IsStepWithin most (Add 1 A [] []) → line_within most (listed_text 113 A) ≡ Ok (Asks A)
+asked_read most few A h = let e = listed_step most few 113 A h in rw e refl
 
-pub shown_read : (model : List Literal) → IsStep (Add 1 model [] []) → line_in (listed_text 109 model) ≡ Ok (Shows model)
-shown_read model h = let e = listed_step 109 model h in cc
+pub shown_read : (most : ℕ) → most < 2 ^ 48 → (model : List Literal) → IsStepWithin most (Add 1 model [] []) → line_within most (listed_text 109 model) ≡ Ok (Shows model)
+shown_read most few model h = let e = listed_step most few 109 model h in cc
 
 -- ---- cores
-module _ (core : List Literal) (hints : List ℕ) (h : IsStep (Add 1 core hints [])) where
+module _ (most : ℕ) (few : most < 2 ^ 48) (core : List Literal) (hints : List ℕ) (h : IsStepWithin most (Add 1 core hints [])) where
   core_line : line_text 1 (Add 1 core hints []) ≡ codes "1" ++ (literals_text core ++ (flat_map number_text hints ++ codes " 0"))
   core_line = addition_is 1 core hints ∙ ap (λ (x : List ℕ). x ++ (literals_text core ++ (flat_map number_text hints ++ codes " 0"))) one_text
 
@@ -139,25 +139,25 @@ module _ (core : List Literal) (hints : List ℕ) (h : IsStep (Add 1 core hints 
       let more = flat_map number_text hints ++ codes " 0" in
       ap (λ (x : List ℕ). codes "1 " ++ body_of (codes "u" ++ (x ++ more))) b.1 ∙ ap (λ (x : List ℕ). codes "1" ++ (x ++ more)) (sym b.1) ∙ sym core_line
 
-  pub core_read : line_in (core_text core hints) ≡ Ok (Fails core hints)
-  core_read = let e = ap step_in core_body ∙ step_read 1 (Add 1 core hints []) one h in rw e refl
+  pub core_read : line_within most (core_text core hints) ≡ Ok (Fails core hints)
+  core_read = let e = ap (step_within most) core_body ∙ step_read most few 1 (Add 1 core hints []) one h in rw e refl
 
   pub core_bare : IsOpen (core_text core hints)
   core_bare = open_of (core_text core hints) (bare_letter 117 (literals_text core ++ (flat_map number_text hints ++ codes " 0")) (λ e. cc)
-      (λ i. subst (λ xs. ¬ (Contains xs 10)) core_line (written_one_line 1 (Add 1 core hints []) one h) (Contains-cons 49 10 (literals_text core ++ (flat_map number_text hints ++ codes " 0")) i)))
+      (λ i. subst (λ xs. ¬ (Contains xs 10)) core_line (written_one_line_within most few 1 (Add 1 core hints []) one h) (Contains-cons 49 10 (literals_text core ++ (flat_map number_text hints ++ codes " 0")) i)))
 
 -- ---- the lines of a log
-module _ (ids : List ℕ) (h : IsStep (Delete ids)) where
-  pub deleted_read : line_in (deleted_text ids) ≡ Ok (Deletes ids)
+module _ (most : ℕ) (few : most < 2 ^ 48) (ids : List ℕ) (h : IsStepWithin most (Delete ids)) where
+  pub deleted_read : line_within most (deleted_text ids) ≡ Ok (Deletes ids)
   deleted_read =
-      let e : step_in (codes "1 " ++ deleted_text ids) ≡ Ok (Delete ids) = ap step_in (sym (deletion_is ids)) ∙ step_read 1 (Delete ids) one h in
+      let e : step_within most (codes "1 " ++ deleted_text ids) ≡ Ok (Delete ids) = ap (step_within most) (sym (deletion_is ids)) ∙ step_read most few 1 (Delete ids) one h in
       rw e refl
 
   pub deleted_bare : IsOpen (deleted_text ids)
-  deleted_bare = open_of (deleted_text ids) (λ i. subst (λ xs. ¬ (Contains xs 10)) (deletion_is ids) (written_one_line 1 (Delete ids) one h) (Contains-append_right (codes "1 ") (deleted_text ids) 10 i))
+  deleted_bare = open_of (deleted_text ids) (λ i. subst (λ xs. ¬ (Contains xs 10)) (deletion_is ids) (written_one_line_within most few 1 (Delete ids) one h) (Contains-append_right (codes "1 ") (deleted_text ids) 10 i))
 
-pub learnt_read : (line : List ℕ) (id : ℕ) (C : Clause) (hints : List ℕ) → step_in line ≡ Ok (Add id C hints []) → line_in (learnt_text line) ≡ Ok (Learns id C hints)
-learnt_read line id C hints e = rw e refl
+pub learnt_read : (most : ℕ) (line : List ℕ) (id : ℕ) (C : Clause) (hints : List ℕ) → step_within most line ≡ Ok (Add id C hints []) → line_within most (learnt_text line) ≡ Ok (Learns id C hints)
+learnt_read most line id C hints e = rw e refl
 
 pub learnt_bare : (line : List ℕ) → IsOpen line → IsOpen (learnt_text line)
 learnt_bare line h = All-cons (λ b. (b == 10) ≡ false) 108 (32 ∷ line) refl (All-cons (λ b. (b == 10) ≡ false) 32 line refl h)
@@ -172,10 +172,10 @@ pub core_same : {core ls : List Literal} {hints ks : List ℕ} → ls ≡ core �
 core_same {core} {ls} {hints} {ks} e f = ap (λ (x : List Literal). core_text x ks) e ∙ ap (core_text core) f
 
 -- ---- limits
-pub given_limits : (vars id : ℕ) (C : Clause) → IsClauseNumber id → vars ≤ 2000000 → All (IsWithin vars) C → IsStep (Add id C [] [])
-given_limits vars id C number few within = (
+pub given_limits : (vars most id : ℕ) (C : Clause) → IsClauseNumber id → vars ≤ most → All (IsWithin vars) C → IsStepWithin most (Add id C [] [])
+given_limits vars most id C number few within = (
   number,
-  All-weaker (IsWithin vars) (IsWithin 2000000) (λ l h. (h.0, (let u = h.1 in omega arith))) C within,
+  All-weaker (IsWithin vars) (IsWithin most) (λ l h. (h.0, (let u = h.1 in omega arith))) C within,
   All-nil IsClauseNumber,
   All-nil IsGroup,
 )

@@ -11,7 +11,7 @@ use Rattle.dimacs.specs.logic.Literal.{Literal, Pos, Neg, Clause, IsTrueIn, IsWi
 use Rattle.dimacs.proofs.Members.{Contains-cons, Contains-cons_cases, Contains-has, Contains-head, Contains-nil}
 use Rattle.lrat_check.specs.StepFaults.{is_tautology}
 use Rattle.lrat_check.proofs.RatExact.{no_pair_is}
-use Rattle.lrat_text.specs.Grammar.{IsClauseNumber, IsGroup, IsStep}
+use Rattle.lrat_text.specs.Grammar.{IsClauseNumber, IsGroup, IsStepWithin}
 use Rattle.lrat_text.specs.Log.{Cube}
 use Rattle.lrat_text.specs.declared.step.Step.TheVariants.{Add}
 use Rattle.cube_solve.specs.Session.{IsSolution}
@@ -122,5 +122,5 @@ literals_within v top [] low up = All-nil (IsWithin top)
 literals_within v top (true ∷ values) low up = All-cons (IsWithin top) (Pos v) (literals_from (v + 1) values) (omega arith, omega arith) (literals_within (v + 1) top values (omega arith) (omega arith))
 literals_within v top (false ∷ values) low up = All-cons (IsWithin top) (Neg v) (literals_from (v + 1) values) (omega arith, omega arith) (literals_within (v + 1) top values (omega arith) (omega arith))
 
-pub model_limits : (values : List Bool) → length values ≤ 2000000 → IsStep (Add 1 (literals_from 1 values) [] [])
-model_limits values few = ((omega arith, omega arith), literals_within 1 2000000 values (omega arith) (omega arith), All-nil IsClauseNumber, All-nil IsGroup)
+pub model_limits : (most : ℕ) (values : List Bool) → length values ≤ most → IsStepWithin most (Add 1 (literals_from 1 values) [] [])
+model_limits most values few = ((omega arith, omega arith), literals_within 1 most values (omega arith) (omega arith), All-nil IsClauseNumber, All-nil IsGroup)

@@ -7,6 +7,7 @@ use Rattle.std.proofs.lemmas.Bool.{cases_Bool, lt-leb}
 use Rattle.std.proofs.lemmas.List.{append-nil}
 use Rattle.std.proofs.lemmas.List.Elements.{All-head, All-tail}
 use Rattle.dimacs.specs.logic.ClauseMap.{ClauseMap, live_in}
+use Rattle.dimacs.specs.logic.Limits.{Limits, written}
 use Rattle.dimacs.specs.logic.Literal.{Literal, Clause, has, negation}
 use Rattle.dimacs.specs.logic.Propagation.{Rup}
 use Rattle.dimacs.specs.text.Words.{lines}
@@ -24,8 +25,8 @@ use Rattle.lrat_text.specs.declared.step.Step.TheVariants.{Add, Delete}
 use Rattle.cube_solve.proofs.DeletionLemmas.{from_any}
 use Rattle.cube_solve.specs.SessionLog.{AreRightSteps, IsFailure}
 use Rattle.sessions.specs.Answers.{Answer, Event, Given, Asked, Satisfied, Failed}
-use Rattle.sessions.specs.Lines.{Asks, Deletes, Fails, Gives, Learns, Read, Shows, line_in}
-use Rattle.sessions.specs.Texts.{Awaits, Goes, Faulty, State, Taken, asks, begun, behind, by_fault, core_fault, going_on, gives, is_between, is_event, is_model, listed, session_of, take_line, take_read, text_from, with_clause, without}
+use Rattle.sessions.specs.Lines.{Asks, Deletes, Fails, Gives, Learns, Read, Shows, line_within}
+use Rattle.sessions.specs.Texts.{Awaits, Goes, Faulty, State, Taken, asks, begun, behind, by_fault, core_fault, going_on, gives, is_between, is_event, is_model, lines_top, listed, session_within, take_line, take_read, text_from, with_clause, without}
 use Rattle.sessions.proofs.EventLemmas.{is_clause-Decides}
 use Rattle.sessions.proofs.TextLemmas.{behind_behind, text_line}
 use Rattle.incremental.specs.inner.LidrupLines.{AppendsLine, AppendsLines, line_said}
@@ -33,10 +34,10 @@ use Rattle.incremental.specs.inner.ReaderSteps.{TakesReader}
 
 -- ---- one line
 line_reads : (a : State) (n : ℕ) (F : List Event) (line more : List ℕ) → IsOpen line
-    → text_from a n F (lines ((line ++ 10 ∷ []) ++ more)) ≡ going_on (take_read a (line_in line)) n F (λ t D. text_from t (n + 1) D (lines more))
+    → text_from a n F (lines ((line ++ 10 ∷ []) ++ more)) ≡ going_on (take_read a (line_within (lines_top a.limits) line)) n F (λ t D. text_from t (n + 1) D (lines more))
 line_reads a n F line more bare = ap (λ (xs : List ℕ). text_from a n F (lines xs)) (append_assoc line (10 ∷ []) more) ∙ text_line a n F line more bare
 
-pub leads_goes : (r : Read) (answer : Option Answer) (a b : State) (n : ℕ) (old new : List ℕ) → AppendsLine r old new → take_read a r ≡ Goes answer b → TakesReader [] (listed answer) a b n (n + 1) old new
+pub leads_goes : (r : Read) (answer : Option Answer) (a b : State) (n : ℕ) (old new : List ℕ) → AppendsLine (lines_top a.limits) r old new → take_read a r ≡ Goes answer b → TakesReader [] (listed answer) a b n (n + 1) old new
 leads_goes r answer a b n old new p e = record {
   bytes = p.line ++ 10 ∷ [];
   text = p.text;
@@ -47,7 +48,7 @@ event_itself : (e : Event) → is_event e e ≡ true
 event_itself (Given C) = (is_clause-Decides C C).1 refl
 event_itself (Asked A) = (is_clause-Decides A A).1 refl
 
-pub leads_awaits : (r : Read) (e : Event) (a b : State) (n : ℕ) (old new : List ℕ) → AppendsLine r old new → take_read a r ≡ Awaits e b → TakesReader (e ∷ []) [] a b n (n + 1) old new
+pub leads_awaits : (r : Read) (e : Event) (a b : State) (n : ℕ) (old new : List ℕ) → AppendsLine (lines_top a.limits) r old new → take_read a r ≡ Awaits e b → TakesReader (e ∷ []) [] a b n (n + 1) old new
 leads_awaits r e a b n old new p is = record {
   bytes = p.line ++ 10 ∷ [];
   text = p.text;
@@ -72,16 +73,16 @@ leads_on E F x y a b c n m k old mid new f g = record {
 }
 
 -- a text that has been read so far
-pub reads_on : (E F : List Event) (x y : List Answer) (text : List ℕ) (a b : State) (n m : ℕ) (old new : List ℕ) → TakesReader F y a b n m old new
-    → ((D : List Event) (more : List ℕ) → session_of (E ++ D) (text ++ (old ++ more)) ≡ behind x (text_from a n D (lines more)))
-    → (D : List Event) (more : List ℕ) → session_of ((E ++ F) ++ D) (text ++ (new ++ more)) ≡ behind (x ++ y) (text_from b m D (lines more))
-reads_on E F x y text a b n m old new f h D more =
-    ap (λ (G : List Event). session_of G (text ++ (new ++ more))) (append_assoc E F D)
-    ∙ ap (λ (t : List ℕ). session_of (E ++ (F ++ D)) (text ++ t)) (ap (λ (t : List ℕ). t ++ more) f.text ∙ append_assoc old f.bytes more)
+pub reads_on : (L : Limits) (E F : List Event) (x y : List Answer) (text : List ℕ) (a b : State) (n m : ℕ) (old new : List ℕ) → TakesReader F y a b n m old new
+    → ((D : List Event) (more : List ℕ) → session_within L (E ++ D) (text ++ (old ++ more)) ≡ behind x (text_from a n D (lines more)))
+    → (D : List Event) (more : List ℕ) → session_within L ((E ++ F) ++ D) (text ++ (new ++ more)) ≡ behind (x ++ y) (text_from b m D (lines more))
+reads_on L E F x y text a b n m old new f h D more =
+    ap (λ (G : List Event). session_within L G (text ++ (new ++ more))) (append_assoc E F D)
+    ∙ ap (λ (t : List ℕ). session_within L (E ++ (F ++ D)) (text ++ t)) (ap (λ (t : List ℕ). t ++ more) f.text ∙ append_assoc old f.bytes more)
     ∙ h (F ++ D) (f.bytes ++ more) ∙ ap (behind x) (f.reads D more) ∙ behind_behind x y (text_from b m D (lines more))
 
 -- ---- events
-pub leads_given : (s : State) (id : ℕ) (C : Clause) (n : ℕ) (old new : List ℕ) → is_between s.stage ≡ true → s.last < id → AppendsLine (Ok (Gives id C)) old new
+pub leads_given : (s : State) (id : ℕ) (C : Clause) (n : ℕ) (old new : List ℕ) → is_between s.stage ≡ true → s.last < id → AppendsLine (lines_top s.limits) (Ok (Gives id C)) old new
     → TakesReader (Given C ∷ []) [] s (record (with_clause s id C) { given = s.given ++ id ∷ [] }) n (n + 1) old new
 leads_given s id C n old new between less p =
     let t : State = record (with_clause s id C) { given = s.given ++ id ∷ [] } in
@@ -91,13 +92,13 @@ leads_given s id C n old new between less p =
 abbrev pub then_of : Taken → State
 then_of (Goes answer t) = t
 then_of (Awaits e t) = t
-then_of (Faulty number text) = begun
+then_of (Faulty number text) = begun written
 
 -- a query is open
 abbrev pub opened : State → Cube → State
-opened s A = then_of (asks (record s { stage = begun.stage }) A)
+opened s A = then_of (asks (record s { stage = (begun s.limits).stage }) A)
 
-pub leads_asked : (s : State) (A : Cube) (n : ℕ) (old new : List ℕ) → is_between s.stage ≡ true → AppendsLine (Ok (Asks A)) old new → TakesReader (Asked A ∷ []) [] s (opened s A) n (n + 1) old new
+pub leads_asked : (s : State) (A : Cube) (n : ℕ) (old new : List ℕ) → is_between s.stage ≡ true → AppendsLine (lines_top s.limits) (Ok (Asks A)) old new → TakesReader (Asked A ∷ []) [] s (opened s A) n (n + 1) old new
 leads_asked s A n old new between p = leads_awaits (Ok (Asks A)) (Asked A) s (opened s A) n old new p (ap (λ b. cond (not b) (Faulty 19 0) (Awaits (Asked A) (opened s A))) between)
 
 -- ---- the lines of a log
@@ -120,35 +121,35 @@ without_given given M [] h = refl
 without_given given M (id ∷ ids) h =
     ap (λ b. without given (cond b M (remove M id)) ids) (not_any given id (All-head (λ k. ¬ (Contains given k)) id ids h)) ∙ without_given given (remove M id) ids (All-tail (λ k. ¬ (Contains given k)) id ids h)
 
-pub log_leads : (s : State) (steps : List Step) (n : ℕ) (old new : List ℕ) → AreRightSteps s.given s.live s.last steps → AppendsLines (map line_said steps) old new
+pub log_leads : (vars : ℕ) (s : State) (steps : List Step) (n : ℕ) (old new : List ℕ) → AreRightSteps vars s.given s.live s.last steps → AppendsLines (lines_top s.limits) (map line_said steps) old new
     → TakesReader [] [] s (stepped s steps) n (n + length steps) old new
-log_leads s [] n old new h e = subst (λ (x : List ℕ). TakesReader [] [] s s n (n + 0) old x) (sym e) (subst (λ k. TakesReader [] [] s s n k old old) (omega arith) (leads_none s n old))
-log_leads s (Add id lits hints groups ∷ steps) n old new h p =
+log_leads vars s [] n old new h e = subst (λ (x : List ℕ). TakesReader [] [] s s n (n + 0) old x) (sym e) (subst (λ k. TakesReader [] [] s s n k old old) (omega arith) (leads_none s n old))
+log_leads vars s (Add id lits hints groups ∷ steps) n old new h p =
     let t = with_clause s id lits in
     let r = h.1 in
     let first = leads_goes (Ok (Learns id lits hints)) None s t n old p.0 p.1 (lemma_goes s id lits hints (let e = r.0 in omega arith) r.2) in
-    let rest = log_leads t steps (n + 1) p.0 new h.2 p.2 in
+    let rest = log_leads vars t steps (n + 1) p.0 new h.2 p.2 in
     subst (λ k. TakesReader [] [] s (stepped t steps) n k old new) (omega arith) (leads_on [] [] [] [] s t (stepped t steps) n (n + 1) ((n + 1) + length steps) old p.0 new first rest)
-log_leads s (Delete ids ∷ steps) n old new h p =
+log_leads vars s (Delete ids ∷ steps) n old new h p =
     let t : State = record s { live = lrat.without s.live ids } in
     let is : without s.given s.live ids ≡ lrat.without s.live ids = without_given s.given s.live ids (h.1).1 ∙ removed-without s.live ids in
     let first = leads_goes (Ok (Deletes ids)) None s t n old p.0 p.1 (ap (λ (M : ClauseMap). Goes None (record s { live = M })) is) in
-    let rest = log_leads t steps (n + 1) p.0 new h.2 p.2 in
+    let rest = log_leads vars t steps (n + 1) p.0 new h.2 p.2 in
     subst (λ k. TakesReader [] [] s (stepped t steps) n k old new) (omega arith) (leads_on [] [] [] [] s t (stepped t steps) n (n + 1) ((n + 1) + length steps) old p.0 new first rest)
 
 -- ---- what closes a query
 abbrev pub closed : State → State
-closed s = record s { stage = begun.stage }
+closed s = record s { stage = (begun s.limits).stage }
 
 module _ (s : State) (A : Cube) (steps : List Step) (n : ℕ) (old mid new : List ℕ) where
   abbrev here : State
   here = stepped (opened s A) steps
 
-  pub leads_model : (model : List Literal) → AppendsLine (line_in (codes "s SATISFIABLE")) old mid → AppendsLine (Ok (Shows model)) mid new → is_model here model ≡ true
+  pub leads_model : (model : List Literal) → AppendsLine (lines_top s.limits) (line_within (lines_top s.limits) (codes "s SATISFIABLE")) old mid → AppendsLine (lines_top s.limits) (Ok (Shows model)) mid new → is_model here model ≡ true
       → TakesReader [] (Satisfied model ∷ []) here (closed here) n (n + 2) old new
   leads_model model p q holds =
-      let said = then_of (take_read here (line_in (codes "s SATISFIABLE"))) in
-      let first = leads_goes (line_in (codes "s SATISFIABLE")) None here said n old mid p refl in
+      let said = then_of (take_read here (line_within (lines_top s.limits) (codes "s SATISFIABLE"))) in
+      let first = leads_goes (line_within (lines_top s.limits) (codes "s SATISFIABLE")) None here said n old mid p refl in
       let second = leads_goes (Ok (Shows model)) (Some (Satisfied model)) said (closed here) (n + 1) mid new q (ap (λ b. cond b (Goes (Some (Satisfied model)) (closed here)) (Faulty 20 0)) holds) in
       subst (λ k. TakesReader [] (Satisfied model ∷ []) here (closed here) n k old new) (omega arith) (leads_on [] [] [] (Satisfied model ∷ []) here said (closed here) n (n + 1) ((n + 1) + 1) old mid new first second)
 
@@ -162,15 +163,15 @@ module _ (s : State) (A : Cube) (steps : List Step) (n : ℕ) (old mid new : Lis
       either true e = refl
       either false e = e
 
-  pub leads_core : (core : List Literal) (hints : List ℕ) → AppendsLine (line_in (codes "s UNSATISFIABLE")) old mid → AppendsLine (Ok (Fails core hints)) mid new
+  pub leads_core : (core : List Literal) (hints : List ℕ) → AppendsLine (lines_top s.limits) (line_within (lines_top s.limits) (codes "s UNSATISFIABLE")) old mid → AppendsLine (lines_top s.limits) (Ok (Fails core hints)) mid new
       → IsFailure here.live core hints → list_all (has A) core ≡ true → TakesReader [] (Failed core ∷ []) here (closed here) n (n + 2) old new
   leads_core core hints p q fails within =
-      let said = then_of (take_read here (line_in (codes "s UNSATISFIABLE"))) in
-      let first = leads_goes (line_in (codes "s UNSATISFIABLE")) None here said n old mid p refl in
+      let said = then_of (take_read here (line_within (lines_top s.limits) (codes "s UNSATISFIABLE"))) in
+      let first = leads_goes (line_within (lines_top s.limits) (codes "s UNSATISFIABLE")) None here said n old mid p refl in
       let second = leads_goes (Ok (Fails core hints)) (Some (Failed core)) said (closed here) (n + 1) mid new q
       (ap (λ f. by_fault f (cond (list_all (has A) core) (Goes (Some (Failed core)) (closed here)) (Faulty 21 0))) (core_none here.live core hints fails)
       ∙ ap (λ b. cond b (Goes (Some (Failed core)) (closed here)) (Faulty 21 0)) within) in
       subst (λ k. TakesReader [] (Failed core ∷ []) here (closed here) n k old new) (omega arith) (leads_on [] [] [] (Failed core ∷ []) here said (closed here) n (n + 1) ((n + 1) + 1) old mid new first second)
 
-  pub leads_unknown : AppendsLine (line_in (codes "s UNKNOWN")) old new → TakesReader [] (Rattle.sessions.specs.Answers.Unknown ∷ []) here (closed here) n (n + 1) old new
-  leads_unknown p = leads_goes (line_in (codes "s UNKNOWN")) (Some Rattle.sessions.specs.Answers.Unknown) here (closed here) n old new p refl
+  pub leads_unknown : AppendsLine (lines_top s.limits) (line_within (lines_top s.limits) (codes "s UNKNOWN")) old new → TakesReader [] (Rattle.sessions.specs.Answers.Unknown ∷ []) here (closed here) n (n + 1) old new
+  leads_unknown p = leads_goes (line_within (lines_top s.limits) (codes "s UNKNOWN")) (Some Rattle.sessions.specs.Answers.Unknown) here (closed here) n old new p refl

@@ -1,16 +1,16 @@
 //! Writes lines of LIDRUP text. Those with clauses are cut out of lines of LRAT text, which `lrat_text` writes.
 
 ghost use Rattle.std.specs.Prelude.{◌≡◌, ℕ, ◌+◌, ◌≤◌, ◌∷◌, ◌++◌, List, [], length, map, codes, Ok, OnOk};
-ghost use Rattle.lrat_text.specs.Grammar.{IsStep};
+ghost use Rattle.lrat_text.specs.Grammar.{IsStep, IsStepWithin};
 ghost use Rattle.lrat_text.specs.Lines.{IsOpen};
-ghost use Rattle.lrat_text.specs.Parser.{step_in};
+ghost use Rattle.lrat_text.specs.Parser.{step_within};
 ghost use Rattle.lrat_text.specs.Runs.{text_of};
 ghost use Rattle.lrat_text.specs.declared.step.Step.{Step};
 ghost use Rattle.lrat_text.specs.declared.step.Step.TheVariants.{Add, Delete};
 ghost use Rattle.incremental.specs.inner.LidrupLines.{ArePlain, IsPlain, AppendsLine, AppendsLines, addition_text, core_text, deleted_text, given_text, line_said, listed_text};
 
 use dimacs::Lit;
-use lrat_text::{Groups, StepBuffer, StepRef, put_ref, read_line};
+use lrat_text::{Groups, StepBuffer, StepRef, put_ref, put_ref_within, read_line_within};
 use packed_text::{PackedLines, PackedText};
 use std::alloc::{AllocError, Global};
 
@@ -21,13 +21,13 @@ fn write_addition(
     lits: &[Lit],
     hints: &[u64],
 ) -> Result<(), AllocError>
-    requires { IsStep (Add id lits.now hints.now []) }
+    requires { IsStepWithin 199999999 (Add id lits.now hints.now []) }
     ensures bytes { OnOk result (line.new.items ≡ addition_text id lits.now hints.now) }
     ensures long { OnOk result (5 ≤ length line.new.items) }
 {
     let groups = Groups::new(*line.allocator());
     line.clear();
-    put_ref(
+    put_ref_within(
         StepRef::Add {
             id,
             lits,
@@ -59,7 +59,8 @@ pub(crate) fn put_line(out: &mut Vec<u8>, front: &[u8], rest: &[u8]) -> Result<(
     Ok(())
 }
 
-/// Appends `front`, then `line` without its first `first` and its last `last` bytes, and a newline.
+/// Appends `front`, then a part of the LRAT line `line`, without its first `first` and its last
+/// `last` bytes, and a newline: so one writer makes the lines of both formats.
 fn put_part(
     out: &mut Vec<u8>,
     front: &[u8],
@@ -81,7 +82,7 @@ pub(crate) fn put_given(
     id: u64,
     clause: &[Lit],
 ) -> Result<(), AllocError>
-    requires { IsStep (Add id clause.now [] []) }
+    requires { IsStepWithin 199999999 (Add id clause.now [] []) }
     ensures { OnOk result (out.new.items ≡ out.old.items ++ (given_text id clause.now ++ 10 ∷ [])) }
 {
     write_addition(line, id, clause, &[])?;
@@ -95,7 +96,7 @@ pub(crate) fn put_listed(
     letter: u8,
     literals: &[Lit],
 ) -> Result<(), AllocError>
-    requires { IsStep (Add 1 literals.now [] []) }
+    requires { IsStepWithin 199999999 (Add 1 literals.now [] []) }
     ensures { OnOk result (out.new.items ≡ out.old.items ++ (listed_text letter literals.now ++ 10 ∷ [])) }
 {
     write_addition(line, 1, literals, &[])?;
@@ -109,7 +110,7 @@ pub(crate) fn put_core(
     core: &[Lit],
     hints: &[u64],
 ) -> Result<(), AllocError>
-    requires { IsStep (Add 1 core.now hints.now []) }
+    requires { IsStepWithin 199999999 (Add 1 core.now hints.now []) }
     ensures { OnOk result (out.new.items ≡ out.old.items ++ (core_text core.now hints.now ++ 10 ∷ [])) }
 {
     write_addition(line, 1, core, hints)?;
@@ -125,11 +126,15 @@ fn put_deleted(out: &mut Vec<u8>, line: &mut Vec<u8>, ids: &[u64]) -> Result<(),
     put_part(out, b"", line, 2, 1)
 }
 
-/// Reads a line of the search's log, which has no fault, into `step`. Err if memory was refused.
+/// The greatest variable of a session.
+const MOST: u32 = 199_999_999;
+
+/// Reads a line of the search's log into `step`. The log was written by this program, so an Err is
+/// a refusal of memory.
 fn read_step(step: &mut StepBuffer, line: &[u8]) -> Result<(), AllocError>
-    ensures { OnOk result (step_in line.now ≡ Ok step.new) }
+    ensures { OnOk result (step_within 199999999 line.now ≡ Ok step.new) }
 {
-    match read_line(step, line) {
+    match read_line_within(step, MOST, line) {
         Ok(()) => Ok(()),
         Err(_) => Err(AllocError),
     }
@@ -161,7 +166,7 @@ impl Scratch {
     /// Appends the line of LIDRUP text for a line of the log, without its LF: a lemma (`l`) or a deletion (`d`).
     fn put_step(&mut self, out: &mut Vec<u8>, line: &[u8]) -> Result<(), AllocError>
         requires open { IsOpen line.now }
-        ensures { OnOk result ((step : Step) → step_in line.now ≡ Ok step → IsPlain step → AppendsLine (Ok (line_said step)) out.old.items out.new.items) }
+        ensures { OnOk result ((most : ℕ) (step : Step) → most ≤ 199999999 → step_within most line.now ≡ Ok step → IsPlain step → AppendsLine most (Ok (line_said step)) out.old.items out.new.items) }
     {
         read_step(&mut self.step, line)?;
         match self.step.as_ref() {
@@ -177,7 +182,7 @@ impl Scratch {
         out: &mut Vec<u8>,
         log: &PackedText,
     ) -> Result<(), AllocError>
-        ensures { OnOk result ((top : ℕ) (steps : List Step) → log.now ≡ text_of top steps → ArePlain top steps → AppendsLines (map line_said steps) out.old.items out.new.items) }
+        ensures { OnOk result ((most top : ℕ) (steps : List Step) → most ≤ 199999999 → log.now ≡ text_of top steps → ArePlain most top steps → AppendsLines most (map line_said steps) out.old.items out.new.items) }
     {
         let mut lines = PackedLines::of(alloc, log);
         let mut line = Vec::new(alloc);

@@ -1,6 +1,7 @@
 //! A solver session that writes a LIDRUP proof of its answers: clauses are given, queries are answered.
 
 ghost use Rattle.std.specs.Prelude.{◌≡◌, ℕ, ◌+◌, ◌^◌, ◌<◌, ◌≤◌, List, [], ◌∷◌, ◌++◌, length, All, IfOk, OnOk};
+ghost use Rattle.dimacs.specs.logic.Limits.{AreNoMore, Limits, large};
 ghost use Rattle.dimacs.specs.logic.Literal.{IsWithin};
 ghost use Rattle.cube_solve.specs.Session.{IsRightAnswer, IfUnknown};
 ghost use Rattle.sessions.specs.Answers.{Event, Asked, Given};
@@ -36,7 +37,8 @@ impl<P> Drop for Session<'_, P> {
     }
 }
 
-/// The literal of the variable of this number that is true if the variable has this value.
+/// The literal of a variable that an assignment makes true: the variable itself if its value is
+/// true, or else its negation.
 fn true_literal(number: u32, value: bool) -> Lit
     requires above { 0 < number }
     requires below { number < 2 ^ 31 }
@@ -52,7 +54,7 @@ fn true_literal(number: u32, value: bool) -> Lit
 
 /// Builds the literals that an assignment makes true, in the order of their variables.
 fn literals_of(alloc: Global, values: &Assignment) -> Result<Vec<Lit>, AllocError>
-    requires { length values.now ≤ 2000000 }
+    requires { length values.now ≤ 199999999 }
     ensures { IfOk result (λ literals. literals.items ≡ literals_from 1 values.now) }
 {
     let mut literals = Vec::with_capacity(alloc, values.len())?;
@@ -71,8 +73,8 @@ fn write_answer(
     line: &mut Vec<u8>,
     answer: &Answer,
 ) -> Result<(), AllocError>
-    requires { IsShort answer.now }
-    ensures { OnOk result (WritesAnswer answer.now out.old.items out.new.items) }
+    requires { IsShort 199999999 answer.now }
+    ensures { OnOk result ((most : ℕ) → most ≤ 199999999 → IsShort most answer.now → WritesAnswer most answer.now out.old.items out.new.items) }
 {
     match answer {
         Answer::Satisfied(values) => {
@@ -95,11 +97,11 @@ impl<'a, P: Propagator> Session<'a, P> {
         propagator: &'a mut P,
         vars: u32,
     ) -> Result<Session<'a, P>, AllocError>
-        requires limit { vars ≤ 1000000 }
+        requires limit { vars ≤ 99999999 }
         requires free { P.attached propagator.old ≡ [] }
         ensures fit { IfOk result (IsSessionReady P.is_ready P.attached) }
         ensures vars { IfOk result (λ s. vars_in s ≡ vars) }
-        ensures stands { IfOk result (HasHistory [] [] []) }
+        ensures stands { IfOk result (λ s. (L : Limits) → AreNoMore L large → vars ≤ L.vars → HasHistory L [] [] [] s) }
     {
         let formula = Builder::new(alloc)?.finish(vars)?;
         Ok(Session {
@@ -130,10 +132,10 @@ impl<'a, P: Propagator> Session<'a, P> {
         requires fit { IsSessionReady P.is_ready P.attached self }
         requires free { P.attached propagator.old ≡ [] }
         requires more { vars_in self ≤ vars }
-        requires limit { vars ≤ 1000000 }
+        requires limit { vars ≤ 99999999 }
         ensures fit { IfOk result (IsSessionReady P.is_ready P.attached) }
         ensures vars { IfOk result (λ s. vars_in s ≡ vars) }
-        ensures stands { IfOk result (λ s. (E : List Event) (told : Told) (text : List ℕ) → HasHistory E told text self.entry → HasHistory E told text s) }
+        ensures stands { IfOk result (λ s. (L : Limits) (E : List Event) (told : Told) (text : List ℕ) → vars ≤ L.vars → HasHistory L E told text self.entry → HasHistory L E told text s) }
     {
         let alloc = self.alloc;
         let (search, out, scratch) = self.into_parts();
@@ -152,7 +154,7 @@ impl<'a, P: Propagator> Session<'a, P> {
         requires within { All (IsWithin (vars_in self.old)) clause.now }
         ensures fit { OnOk result (IsSessionReady P.is_ready P.attached self.new) }
         ensures vars { OnOk result (vars_in self.new ≡ vars_in self.old) }
-        ensures stands { OnOk result ((E : List Event) (told : Told) (text : List ℕ) → HasHistory E told text self.old → HasHistory (E ++ Given clause.now ∷ []) told text self.new) }
+        ensures stands { OnOk result ((L : Limits) (E : List Event) (told : Told) (text : List ℕ) → HasHistory L E told text self.old → HasHistory L (E ++ Given clause.now ∷ []) told text self.new) }
     {
         self.search.give(clause)?;
         let id = self.search.last();
@@ -167,11 +169,11 @@ impl<'a, P: Propagator> Session<'a, P> {
         requires within { All (IsWithin (vars_in self.old)) query.now }
         ensures fit { OnOk result (IsSessionReady P.is_ready P.attached self.new) }
         ensures vars { OnOk result (vars_in self.new ≡ vars_in self.old) }
-        ensures stands { IfOk result (λ answer. (E : List Event) (told : Told) (text : List ℕ) → HasHistory E told text self.old → HasHistory (E ++ Asked query.now ∷ []) (told ++ told_of answer ∷ []) text self.new) }
-        ensures right { IfOk result (λ answer. (E : List Event) (told : Told) (text : List ℕ) → HasHistory E told text self.old → IsRightAnswer (vars_in self.old) (clauses_of E) query.now answer) }
+        ensures stands { IfOk result (λ answer. (L : Limits) (E : List Event) (told : Told) (text : List ℕ) → HasHistory L E told text self.old → HasHistory L (E ++ Asked query.now ∷ []) (told ++ told_of answer ∷ []) text self.new) }
+        ensures right { IfOk result (λ answer. (L : Limits) (E : List Event) (told : Told) (text : List ℕ) → HasHistory L E told text self.old → IsRightAnswer (vars_in self.old) (clauses_of E) query.now answer) }
         ensures unknown { IfOk result (λ answer. IfUnknown answer (last_in self.new ≡ last_in self.old + limit)) }
         ensures most { OnOk result (last_in self.new ≤ last_in self.old + limit) }
-        ensures grows { OnOk result ((E : List Event) (told : Told) (text : List ℕ) → HasHistory E told text self.old → (more : List ℕ) × (self.new.out.items ≡ self.old.out.items ++ more)) }
+        ensures grows { OnOk result ((L : Limits) (E : List Event) (told : Told) (text : List ℕ) → HasHistory L E told text self.old → (more : List ℕ) × (self.new.out.items ≡ self.old.out.items ++ more)) }
     {
         put_listed(&mut self.out, &mut self.scratch.line, b'q', query)?;
         let answer = self.search.ask(query, limit)?;
@@ -185,7 +187,7 @@ impl<'a, P: Propagator> Session<'a, P> {
     pub fn written(&self) -> &[u8]
         ensures bytes { result.now ≡ self.now.out.items }
         // after the bytes that were handed out, they are accepted
-        ensures accepted { (E : List Event) (told : Told) (text : List ℕ) → HasHistory E told text self.now → IsAccepted E told (text ++ result.now) }
+        ensures accepted { (L : Limits) (E : List Event) (told : Told) (text : List ℕ) → HasHistory L E told text self.now → IsAccepted L E told (text ++ result.now) }
     {
         &self.out
     }
@@ -194,7 +196,7 @@ impl<'a, P: Propagator> Session<'a, P> {
     pub fn forget(&mut self)
         ensures fit { IsSessionReady P.is_ready P.attached self.old → IsSessionReady P.is_ready P.attached self.new }
         ensures vars { vars_in self.new ≡ vars_in self.old }
-        ensures stands { (E : List Event) (told : Told) (text : List ℕ) → HasHistory E told text self.old → HasHistory E told (text ++ self.old.out.items) self.new }
+        ensures stands { (L : Limits) (E : List Event) (told : Told) (text : List ℕ) → HasHistory L E told text self.old → HasHistory L E told (text ++ self.old.out.items) self.new }
         ensures empty { self.new.out.items ≡ [] }
     {
         self.out.clear();

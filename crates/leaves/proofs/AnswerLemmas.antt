@@ -5,7 +5,7 @@ use Rattle.std.specs.List.{AllByRecursion, filter, onto_first, slice_split}
 use Rattle.std.proofs.lemmas.Bool.{true≢false, or_cases, eqb-true, ne_eqb}
 use Rattle.std.proofs.lemmas.List.Splits.{slice_split-cons_no}
 use Rattle.dimacs.specs.text.Words.{is_some_byte}
-use Rattle.lrat_text.specs.Grammar.{IsClauseNumber, IsStep, LineSpells, SpellsStep, space, step_tokens, tokens}
+use Rattle.lrat_text.specs.Grammar.{IsClauseNumber, IsStepWithin, LineSpellsWithin, SpellsStepWithin, space, step_tokens, tokens}
 use Rattle.lrat_text.specs.declared.step.Step.{Step}
 use Rattle.lrat_text.specs.declared.step.Step.TheVariants.{Add, Delete}
 use Rattle.lrat_text.proofs.NumberLemmas.{IsDigitByte, decimal_digits}
@@ -40,18 +40,18 @@ first_token b bs e =
     )
 
 -- the first token of a step is a number
-first_number : (top : ℕ) (step : Step) → IsClauseNumber top → IsStep step → (n : ℕ) × (words : List (List ℕ)) × (n < 2 ^ 64) × (step_tokens top step ≡ decimal n ∷ words)
-first_number top (Add id lits hints groups) t h = (id, _, (let u = h.0.1 in omega arith), refl)
-first_number top (Delete ids) t h = (top, _, (let u = t.1 in omega arith), refl)
+first_number : (most top : ℕ) (step : Step) → IsClauseNumber top → IsStepWithin most step → (n : ℕ) × (words : List (List ℕ)) × (n < 2 ^ 64) × (step_tokens top step ≡ decimal n ∷ words)
+first_number most top (Add id lits hints groups) t h = (id, _, (let u = h.0.1 in omega arith), refl)
+first_number most top (Delete ids) t h = (top, _, (let u = t.1 in omega arith), refl)
 
 same_first : (v w : List ℕ) (vs ws : List (List ℕ)) → ◌≡◌ {A = List (List ℕ)} (v ∷ vs) (w ∷ ws) → v ≡ w
 same_first v w vs ws e = cc
 
-begins_number : (b : ℕ) (bs : List ℕ) (top : ℕ) (step : Step) → is_answer_letter b ≡ true → IsClauseNumber top → IsStep step → tokens (b ∷ bs) ≡ step_tokens top step → ⊥
-begins_number b bs top step letter numbered limits spelled =
+begins_number : (most b : ℕ) (bs : List ℕ) (top : ℕ) (step : Step) → is_answer_letter b ≡ true → IsClauseNumber top → IsStepWithin most step → tokens (b ∷ bs) ≡ step_tokens top step → ⊥
+begins_number most b bs top step letter numbered limits spelled =
     let high : 58 ≤ b = letter_is b letter in
     let t = first_token b bs (ne_eqb b 32 (λ e. omega arith)) in
-    let n = first_number top step numbered limits in
+    let n = first_number most top step numbered limits in
     let same : b ∷ t.0 ≡ decimal n.0 = same_first (b ∷ t.0) (decimal n.0) t.1 n.1 (sym t.2 ∙ spelled ∙ n.3) in
     let digits : AllByRecursion IsDigitByte (b ∷ t.0) = subst (AllByRecursion IsDigitByte) (sym same) (decimal_digits n.0 n.2) in
     let low : b ≤ 57 = digits.0.1 in
@@ -60,11 +60,11 @@ begins_number b bs top step letter numbered limits spelled =
 same_byte : (b c : ℕ) (bs cs : List ℕ) → ◌≡◌ {A = List ℕ} (b ∷ bs) (c ∷ cs) → b ≡ c
 same_byte b c bs cs e = cc
 
-pub answer_is_no_log : (text : List ℕ) (steps : List Step) → LineSpells text steps → is_answer text ≡ true → ⊥
-answer_is_no_log [] steps h e = true≢false (sym e)
-answer_is_no_log (b ∷ bs) [] h e = let no : ⊥ = cc in no
-answer_is_no_log (b ∷ bs) (step ∷ steps) (line, rest, is, one, spells, more) e = at line is spells
+pub answer_is_no_log : (most : ℕ) (text : List ℕ) (steps : List Step) → LineSpellsWithin most text steps → is_answer text ≡ true → ⊥
+answer_is_no_log most [] steps h e = true≢false (sym e)
+answer_is_no_log most (b ∷ bs) [] h e = let no : ⊥ = cc in no
+answer_is_no_log most (b ∷ bs) (step ∷ steps) (line, rest, is, one, spells, more) e = at line is spells
   where
-    at : (l : List ℕ) → (b ∷ bs) ≡ l ++ 10 ∷ rest → SpellsStep l step → ⊥
+    at : (l : List ℕ) → (b ∷ bs) ≡ l ++ 10 ∷ rest → SpellsStepWithin most l step → ⊥
     at [] f s = (let some = s.trimmed.some in omega arith)
-    at (c ∷ l) f s = begins_number c l s.top step (subst (λ x. is_answer_letter x ≡ true) (same_byte b c bs (l ++ 10 ∷ rest) f) e) s.numbered s.limits s.spelled
+    at (c ∷ l) f s = begins_number most c l s.top step (subst (λ x. is_answer_letter x ≡ true) (same_byte b c bs (l ++ 10 ∷ rest) f) e) s.numbered s.limits s.spelled

@@ -38,19 +38,19 @@ closed_more (false ∷ bs) false = refl
 
 -- what `closes` says of a leaf is what is reported of it
 pub tells_leaf : (x : CubeLog) (place : ℕ) (q : Cube) (b : Bool) → IsEnded x
-    → ((F : Cnf) (bytes written : List ℕ) → IsEnded x → HasLogged F bytes written x → MatchBool b (ClosesQuery F bytes place q) (¬ (ClosesQuery F bytes place q)))
-    → OnTrue b ((F : Cnf) (bytes written : List ℕ) → HasLogged F bytes written x → ClosesCube F q (written ++ x.lines.out.items))
-    → (F : Cnf) (bytes written : List ℕ) → HasLogged F bytes written x → TellsLeaf F bytes (written ++ x.lines.out.items) place q b
-tells_leaf x place q true ended which closes F bytes written s = (which F bytes written ended s, closes F bytes written s)
-tells_leaf x place q false ended which closes F bytes written s = (which F bytes written ended s, tt)
+    → ((F : Cnf) (bytes handed : List ℕ) → IsEnded x → HasLogged F bytes handed x → MatchBool b (ClosesQuery F bytes place q) (¬ (ClosesQuery F bytes place q)))
+    → OnTrue b ((F : Cnf) (bytes handed : List ℕ) → HasLogged F bytes handed x → ClosesCube F q (handed ++ x.lines.out.items))
+    → (F : Cnf) (bytes handed : List ℕ) → HasLogged F bytes handed x → TellsLeaf F bytes (handed ++ x.lines.out.items) place q b
+tells_leaf x place q true ended which closes F bytes handed s = (which F bytes handed ended s, closes F bytes handed s)
+tells_leaf x place q false ended which closes F bytes handed s = (which F bytes handed ended s, tt)
 
 pub telling_none : (x : CubeLog) (place : ℕ) → HasReportedLeaves x place [] [] 20
-telling_none x place = record { told = []; long = refl; are = λ F bytes written s. tt; text_is = refl; status_is = refl }
+telling_none x place = record { told = []; long = refl; are = λ F bytes handed s. tt; text_is = refl; status_is = refl }
 
 -- the leaf of a place is reported after those from the first one to it
 pub telling_more : (x : CubeLog) (leaves : List Cube) (first place query : ℕ) (q : Cube) (text : List ℕ) (status : ℕ) (b : Bool)
     → first ≤ place → place < length leaves → query ≡ place - first → q ≡ get_or leaves place []
-    → ((F : Cnf) (bytes written : List ℕ) → HasLogged F bytes written x → TellsLeaf F bytes (written ++ x.lines.out.items) query q b)
+    → ((F : Cnf) (bytes handed : List ℕ) → HasLogged F bytes handed x → TellsLeaf F bytes (handed ++ x.lines.out.items) query q b)
     → HasReportedLeaves x first (part_of leaves first place) text status → HasReportedLeaves x first (part_of leaves first (place + 1)) (text ++ leaf_line place b) (cond b status 0)
 telling_more x leaves first place query q text status b low inside asked at tells t =
     let part : List Cube = part_of leaves first place in
@@ -64,9 +64,9 @@ telling_more x leaves first place query q text status b low inside asked at tell
     subst (λ (qs : List Cube). HasReportedLeaves x first qs (text ++ leaf_line place b) (cond b status 0)) (sym more) (record {
       told = t.told ++ b ∷ [];
       long = omega (arith, t.long, length-append t.told (b ∷ []), length-append part (q ∷ []));
-      are = λ F bytes written s.
-          told_more F bytes (written ++ x.lines.out.items) 0 part t.told q b (t.are F bytes written s)
-          (subst (λ n. TellsLeaf F bytes (written ++ x.lines.out.items) n q b) (sym here) (tells F bytes written s));
+      are = λ F bytes handed s.
+          told_more F bytes (handed ++ x.lines.out.items) 0 part t.told q b (t.are F bytes handed s)
+          (subst (λ n. TellsLeaf F bytes (handed ++ x.lines.out.items) n q b) (sym here) (tells F bytes handed s));
       text_is = ap (λ (o : List ℕ). o ++ leaf_line place b) t.text_is ∙ ap (λ n. told_text first t.told ++ leaf_line n b) (sym there) ∙ sym (text_more first t.told b);
       status_is = ap (λ (s : ℕ). cond b s 0) t.status_is ∙ closed_more t.told b;
     })
@@ -74,10 +74,10 @@ telling_more x leaves first place query q text status b low inside asked at tell
 -- the report of all leaves
 pub reported : (l : BlockLift) (text : List ℕ) (status : ℕ) (r : Result Report AllocError) → HasReportedLeaves l.log l.block.first (part_of l.block.tree l.block.first l.block.end) text status
     → IfOk r (λ o. o.stdout.items ≡ text) → IfOk r (λ o. o.status ≡ status) → IfOk r (λ o. o.proof ≡ None)
-    → IfOk r (λ o. (F : Cnf) (place : ℕ) (cubes : List Cube) (bytes written : List ℕ) → HasTakenBlock F place cubes bytes written l → PrintsBlock F place cubes bytes (written ++ l.log.lines.out.items) o)
-reported l text status (Ok o) t out code proof = λ F place cubes bytes written h. record {
+    → IfOk r (λ o. (F : Cnf) (place : ℕ) (cubes : List Cube) (bytes handed : List ℕ) → HasTakenBlock F place cubes bytes handed l → PrintsBlock F place cubes bytes (handed ++ l.log.lines.out.items) o)
+reported l text status (Ok o) t out code proof = λ F place cubes bytes handed h. record {
   told = t.told;
-  are = subst (λ (qs : List Cube). AreTold F bytes (written ++ l.log.lines.out.items) 0 qs t.told) h.holds (t.are F bytes written h.stands);
+  are = subst (λ (qs : List Cube). AreTold F bytes (handed ++ l.log.lines.out.items) 0 qs t.told) h.holds (t.are F bytes handed h.stands);
   prints = record { status_is = code ∙ t.status_is; text_is = out ∙ t.text_is ∙ ap (λ n. told_text n t.told) h.from; no_proof = proof };
 }
 reported l text status (Err e) t out code proof = tt

@@ -21,7 +21,7 @@ use Rattle.log_join.specs.JoinedLogs.{AreLogs, JoinState, Handed, IsClosedBy, jo
 use Rattle.log_join.specs.Written.{AtLogEnd, NoneLive, lemmas_below, leaves_of}
 use Rattle.log_join.specs.declared.log_joiner.LogJoiner.{LogJoiner}
 use Rattle.log_join.proofs.ClosedLemmas.{closed_all, closed_only, gathered_cubes}
-use Rattle.log_join.proofs.PlacedLemmas.{log_between, log_top}
+use Rattle.log_join.proofs.PlacedLemmas.{log_between, counted_top}
 use Rattle.log_join.proofs.SettleLemmas.{both, from_map}
 use Rattle.log_join.proofs.SettlingLemmas.{lemmas_all, lemmas_longer}
 use Rattle.leaves.specs.inner.CheckedLines.{ClosesNewly, ClosesOpen, TellsClosing}
@@ -117,7 +117,7 @@ ending_leaves F cubes logs h n g written e none =
     not_live k far None z = z
     not_live k far (Some C) z =
         let r = (log_between (length F.clauses) (map_of F) (length F.clauses) h.steps e.way.is_log (between_formula F) k C z).1 in
-        let t = log_top (length F.clauses) (map_of F) (length F.clauses) h.steps e.way.is_log in
+        let t = counted_top (length F.clauses) (map_of F) (length F.clauses) h.steps e.way.is_log in
         absurd (omega arith)
 
 -- an open leaf is closed by none of the logs before

@@ -1,5 +1,5 @@
 -- Files that close leaves, and the logs that are gathered of them.
-use Rattle.std.proofs.Common.{◌≡◌, ◌⊎◌, ℕ, ◌<◌, inl, inr, Bool, true, false, ◌&&◌, List, [], ◌∷◌, ◌++◌, length, Result, Ok, Err, refl, sym, ◌∙◌, ap, subst, arith}
+use Rattle.std.proofs.Common.{◌≡◌, ◌⊎◌, ℕ, ◌<◌, ◌≤◌, ◌^◌, max, inl, inr, Bool, true, false, ◌&&◌, List, [], ◌∷◌, ◌++◌, length, Result, Ok, Err, refl, sym, ◌∙◌, ap, subst, arith}
 use Rattle.std.specs.Prelude.{◌↔◌}
 use Rattle.std.specs.List.{Contains, list_all}
 use Rattle.std.proofs.lemmas.Bool.{true≢false}
@@ -10,10 +10,10 @@ use Rattle.icnf.specs.Leaves.{Cube}
 use Rattle.lrat_check.specs.Logs.{log_of}
 use Rattle.lrat_check.specs.declared.line_checker.CheckFault.{CheckFault}
 use Rattle.lrat_check.proofs.LogTexts.{log_checked}
-use Rattle.lrat_text.specs.Grammar.{LineSpells}
-use Rattle.lrat_text.specs.Log.{IsLog}
+use Rattle.lrat_text.specs.Grammar.{LineSpellsWithin}
+use Rattle.lrat_text.specs.Log.{IsLog, log_top}
 use Rattle.lrat_text.specs.declared.step.Step.{Step}
-use Rattle.lrat_text.proofs.CountingLemmas.{one_list}
+use Rattle.lrat_text.proofs.CountingLemmas.{one_list_within}
 use Rattle.proof_join.proofs.MapLemmas.{between_formula}
 use Rattle.log_join.specs.ClosedLeaves.{Leaf, is_closed}
 use Rattle.log_join.specs.JoinedLogs.{AreLogs, ClosesLeaf, Handed, IsClosedBy, joined_so_far}
@@ -62,22 +62,24 @@ last_file F files text q c = (text, Contains-append_right files (text ∷ []) te
 
 -- ---- a file that is read to its end
 -- it is a log, of these steps
-pub closes_as : (F : Cnf) (q : Cube) (text : List ℕ) (log : List Step) → LineSpells text log → IsLog F log → ClosesLeaf F q log → ClosesAsLog F q text
+pub closes_as : (F : Cnf) (q : Cube) (text : List ℕ) (log : List Step) → LineSpellsWithin (log_top F) text log → IsLog F log → ClosesLeaf F q log → ClosesAsLog F q text
 closes_as F q text log spells is_log c = record { steps = log; spells = spells; is_log = is_log; closes = c }
 
-as_closes : (F : Cnf) (q : Cube) (text : List ℕ) (log : List Step) → LineSpells text log → ClosesAsLog F q text → ClosesLeaf F q log
-as_closes F q text log spells c = subst (ClosesLeaf F q) (one_list text c.steps log c.spells spells) c.closes
+as_closes : (F : Cnf) → F.vars ≤ 199999999 → (q : Cube) (text : List ℕ) (log : List Step) → LineSpellsWithin (log_top F) text log → ClosesAsLog F q text → ClosesLeaf F q log
+as_closes F low q text log spells c =
+    let few : max 2000000 F.vars < 2 ^ 48 = omega (arith, low) in
+    subst (ClosesLeaf F q) (one_list_within (log_top F) few text c.steps log c.spells spells) c.closes
 
-pub log_more : (F : Cnf) (logs : List Handed) (files : List (List ℕ)) (text : List ℕ) (log : List Step) → AreOf F logs files → LineSpells text log → IsLog F log
+pub log_more : (F : Cnf) → F.vars ≤ 199999999 → (logs : List Handed) (files : List (List ℕ)) (text : List ℕ) (log : List Step) → AreOf F logs files → LineSpellsWithin (log_top F) text log → IsLog F log
     → AreOf F (logs ++ record { steps = log; accepted = true } ∷ []) (files ++ text ∷ [])
-log_more F logs files text log are spells is_log q = (
+log_more F low logs files text log are spells is_log q = (
   λ by. elim (by_more F logs (record { steps = log; accepted = true }) q by) [
     | inl before ↦ more_file F files text q ((are q).0 before)
     | inr last ↦ last_file F files text q (closes_as F q text log spells is_log last.1)
   ],
   λ by. elim (file_more F files text q by) [
     | inl before ↦ more_by F logs (record { steps = log; accepted = true }) q ((are q).1 before)
-    | inr last ↦ last_by F logs (record { steps = log; accepted = true }) q refl (as_closes F q text log spells last)
+    | inr last ↦ last_by F logs (record { steps = log; accepted = true }) q refl (as_closes F low q text log spells last)
   ],
 )
 
@@ -102,30 +104,39 @@ nothing_more F logs files text are none q = (
 )
 
 pub answer_closes_none : (F : Cnf) (text : List ℕ) → is_answer text ≡ true → (q : Cube) → ¬ (ClosesAsLog F q text)
-answer_closes_none F text is q c = answer_is_no_log text c.steps c.spells is
+answer_closes_none F text is q c = answer_is_no_log (log_top F) text c.steps c.spells is
 
-pub faulty_closes_none : (F : Cnf) (text : List ℕ) (fault : CheckFault) → log_of F text ≡ Err fault → (q : Cube) → ¬ (ClosesAsLog F q text)
-faulty_closes_none F text fault is q c = two_ends (log_of F text) fault (log_checked F text (c.steps, c.spells, c.is_log)) is
+pub faulty_closes_none : (F : Cnf) → F.vars ≤ 199999999 → (text : List ℕ) (fault : CheckFault) → log_of F text ≡ Err fault → (q : Cube) → ¬ (ClosesAsLog F q text)
+faulty_closes_none F low text fault is q c = two_ends (log_of F text) fault (log_checked F text low (c.steps, c.spells, c.is_log)) is
   where
     two_ends : (r : Result (Unit {0}) CheckFault) (f : CheckFault) → r ≡ Ok tt → r ≡ Err f → ⊥
     two_ends r f a b = cc
 
+-- no byte spells no step
+no_step_spelled : (most : ℕ) (steps : List Step) → LineSpellsWithin most [] steps → steps ≡ []
+no_step_spelled most [] h = refl
+no_step_spelled most (step ∷ steps) (line, rest, is, one, spells, more) = absurd (none line is)
+  where
+    none : (bytes : List ℕ) → [] ≡ bytes ++ 10 ∷ rest → ⊥
+    none [] e = let no : ⊥ = cc in no
+    none (b ∷ bytes) e = let no : ⊥ = cc in no
+
 pub empty_closes_none : (F : Cnf) (q : Cube) → ¬ (ClosesAsLog F q [])
 empty_closes_none F q c =
-    let no_step : c.steps ≡ [] = one_list [] c.steps [] c.spells refl in
+    let no_step : c.steps ≡ [] = no_step_spelled (log_top F) c.steps c.spells in
     let k = subst (ClosesLeaf F q) no_step c.closes in
     let own : length F.clauses < k.id = k.own in
     let r = (between_formula F k.id k.clause k.lives).1 in
     absurd (omega arith)
 
 -- ---- what it closes
-pub newly_more : (F : Cnf) (cubes : List Cube) (logs : List Handed) (files : List (List ℕ)) (text : List ℕ) (log : List Step) → AreOf F logs files → LineSpells text log → IsLog F log
+pub newly_more : (F : Cnf) (cubes : List Cube) (logs : List Handed) (files : List (List ℕ)) (text : List ℕ) (log : List Step) → AreOf F logs files → LineSpellsWithin (log_top F) text log → IsLog F log
     → ClosesNewly F cubes logs log → ClosesNewLeaf F cubes files text
 newly_more F cubes logs files text log are spells is_log (q, i, none, c) = (q, i, λ by. none ((are q).1 by), closes_as F q text log spells is_log c)
 
-pub more_newly : (F : Cnf) (cubes : List Cube) (logs : List Handed) (files : List (List ℕ)) (text : List ℕ) (log : List Step) → AreOf F logs files → LineSpells text log
+pub more_newly : (F : Cnf) → F.vars ≤ 199999999 → (cubes : List Cube) (logs : List Handed) (files : List (List ℕ)) (text : List ℕ) (log : List Step) → AreOf F logs files → LineSpellsWithin (log_top F) text log
     → ClosesNewLeaf F cubes files text → ClosesNewly F cubes logs log
-more_newly F cubes logs files text log are spells (q, i, none, c) = (q, i, λ by. none ((are q).0 by), as_closes F q text log spells c)
+more_newly F low cubes logs files text log are spells (q, i, none, c) = (q, i, λ by. none ((are q).0 by), as_closes F low q text log spells c)
 
 -- ---- the leaves
 pub leaves_stand : (F : Cnf) (cubes : List Cube) (logs : List Handed) (files : List (List ℕ)) → AreLogs F logs → AreOf F logs files → LeavesClosedByFiles F cubes files (joined_so_far F cubes logs).leaves

@@ -1,5 +1,5 @@
 -- A join of logs, while files are read.
-use Rattle.std.proofs.Common.{◌≡◌, ◌≢◌, inl, inr, ℕ, ◌+◌, ◌<◌, ◌^◌, Bool, true, false, cond, arith, length, get_or, List, [], ◌∷◌, ◌++◌, refl, sym, ap, subst, ◌∙◌, append_assoc, Result, Ok, Err, OnOk}
+use Rattle.std.proofs.Common.{◌≡◌, ◌≢◌, inl, inr, ℕ, ◌+◌, ◌<◌, ◌≤◌, ◌^◌, Bool, true, false, cond, arith, length, get_or, List, [], ◌∷◌, ◌++◌, refl, sym, ap, subst, ◌∙◌, append_assoc, Result, Ok, Err, OnOk}
 use Rattle.std.specs.Prelude.{MatchBool, codes, ◌==◌}
 use Rattle.std.proofs.lemmas.Bool.Decides.{nat_tests}
 use Rattle.std.proofs.lemmas.List.{append-nil, length-map}
@@ -16,13 +16,14 @@ use Rattle.log_join.specs.Written.{Appends, BetweenLogs, WithinLog, leaves_of}
 use Rattle.dimacs.specs.logic.Cnf.{Cnf}
 use Rattle.log_join.specs.declared.fault.LogJoinFault.{LogJoinFault}
 use Rattle.icnf.specs.Leaves.{Cube}
-use Rattle.lrat_text.specs.Grammar.{LineSpells}
+use Rattle.lrat_text.specs.Grammar.{LineSpellsWithin, SpellsStepWithin}
 use Rattle.lrat_text.specs.Lines.{IsOpen}
+use Rattle.lrat_text.specs.Log.{log_top}
 use Rattle.lrat_text.specs.LineSink.{HandsOn, LineRefused, PieceStops, TakesAll, ended_lines}
 use Rattle.lrat_text.specs.declared.line_splitter.PieceFault.{PieceFault}
 use Rattle.lrat_text.specs.declared.line_splitter.PieceFault.TheVariants.{Line}
 use Rattle.lrat_text.specs.declared.step.Step.{Step}
-use Rattle.lrat_text.proofs.RunLemmas.{spells_append}
+use Rattle.lrat_text.proofs.RunLemmas.{spells_append_within}
 use Rattle.lrat_text.proofs.LineSinkLemmas.{hands_none}
 use Rattle.lrat_text.specs.Proof.{Accepts}
 use Rattle.proof_join.specs.RenumberedProof.{RefutesByRup}
@@ -58,12 +59,13 @@ kind_as r s bytes is h = subst (λ (x : FileState). FitsFirstByte x bytes) is h
 -- ---- a log, piece by piece
 -- lines that are taken spell steps, which are written
 lines_spell : (ls : List (List ℕ)) (a b : CheckedLines) → All IsOpen ls → TakesAll LineTaken a ls b → (F : Cnf) (cubes : List Cube) (logs : List Handed) (log : List Step) (written : List ℕ) → IsWithinLog F cubes logs log written a
-    → (more : List Step) × LineSpells (ended_lines ls) more × IsWithinLog F cubes logs (log ++ more) written b
+    → (more : List Step) × LineSpellsWithin (log_top F) (ended_lines ls) more × IsWithinLog F cubes logs (log ++ more) written b
 lines_spell [] a b each same F cubes logs log written h = ([], refl, subst (λ (s : List Step). IsWithinLog F cubes logs s written b) (sym (append-nil log)) (subst (IsWithinLog F cubes logs log written) same h))
 lines_spell (line ∷ ls) a b each (m, first, later) F cubes logs log written h =
-    let r = lines_spell ls m b (All-tail IsOpen line ls each) later F cubes logs (log ++ m.checker.step ∷ []) written (first.within F cubes logs log written h) in (
+    let r = lines_spell ls m b (All-tail IsOpen line ls each) later F cubes logs (log ++ m.checker.step ∷ []) written (first.within F cubes logs log written h) in
+    let spells : SpellsStepWithin (log_top F) line m.checker.step = subst (λ (n : ℕ). SpellsStepWithin n line m.checker.step) h.after.stands.most first.takes.spells in (
       m.checker.step ∷ r.0,
-      (line, ended_lines ls, refl, no_lf_to line (All-head IsOpen line ls each), first.takes.spells, r.1),
+      (line, ended_lines ls, refl, no_lf_to line (All-head IsOpen line ls each), spells, r.1),
       subst (λ (s : List Step). IsWithinLog F cubes logs s written b) (append_assoc log (m.checker.step ∷ []) r.0) r.2,
     )
 
@@ -76,7 +78,7 @@ log_feeds F cubes logs bytes line written a piece b left r h =
       within = more.2;
       front = r.front ++ ended_lines h.lines;
       whole = ap (λ (x : List ℕ). x ++ piece) r.whole ∙ append_assoc r.front line piece ∙ ap (λ (x : List ℕ). r.front ++ x) h.whole ∙ sym (append_assoc r.front (ended_lines h.lines) left);
-      spells = spells_append r.front (ended_lines h.lines) r.log more.0 r.spells more.1;
+      spells = spells_append_within (log_top F) r.front (ended_lines h.lines) r.log more.0 r.spells more.1;
       first = r.first;
       begun = r.begun;
       checked = hands_piece TakesLogLine r.first bytes a.checker line piece b.checker left r.checked (hands_log (λ (l : CheckedLines). l.checker) LineTaken (λ s one t k. k.takes) a (line ++ piece) b left h);
@@ -164,10 +166,10 @@ module _ (F : Cnf) (cubes : List Cube) (files : List (List ℕ)) (logs : List Ha
     between = r.between;
   }
 
-pub tells_nothing : (F : Cnf) (cubes : List Cube) (files : List (List ℕ)) (bytes : List ℕ) → bytes ≡ [] → IsFileOutcome F cubes files bytes ends.ClosesNothing
-tells_nothing F cubes files bytes none =
+pub tells_nothing : (F : Cnf) → F.vars ≤ 199999999 → (cubes : List Cube) (files : List (List ℕ)) (bytes : List ℕ) → bytes ≡ [] → IsFileOutcome F cubes files bytes ends.ClosesNothing
+tells_nothing F low cubes files bytes none =
     subst (λ (x : List ℕ). IsFileOutcome F cubes files x ends.ClosesNothing) (sym none)
-    (subst (λ (r : Result (Unit {0}) CheckFault). IsLogOutcome F cubes files [] r ends.ClosesNothing) (sym (log_checked F [] ([], refl, tt))) (inr (refl, λ more. empty_closes_none F more.0 more.3)))
+    (subst (λ (r : Result (Unit {0}) CheckFault). IsLogOutcome F cubes files [] r ends.ClosesNothing) (sym (log_checked F [] low ([], refl, tt))) (inr (refl, λ more. empty_closes_none F more.0 more.3)))
 
 -- an answer
 pub answer_ends : (F : Cnf) (cubes : List Cube) (files : List (List ℕ)) (logs : List Handed) (reader : Progress) (bytes line written : List ℕ) (l : CheckedLines) → AreOf F logs files → HasFirstByte true bytes
@@ -189,19 +191,19 @@ module _ (F : Cnf) (cubes : List Cube) (files : List (List ℕ)) (logs : List Ha
   answers = log_ends F r.first bytes old.checker line r.begun r.checked one_line
 
   module _ (ok : Ok tt ≡ log_end old.checker line) (b : Bool) (end : EndsLog true old new b) where
-    whole : LineSpells bytes r.log
-    whole = subst (λ (x : List ℕ). LineSpells x r.log) (sym (r.whole ∙ ap (λ (x : List ℕ). r.front ++ x) (nothing_left old.checker line ok) ∙ append-nil r.front)) r.spells
+    whole : LineSpellsWithin (log_top F) bytes r.log
+    whole = subst (λ (x : List ℕ). LineSpellsWithin (log_top F) x r.log) (sym (r.whole ∙ ap (λ (x : List ℕ). r.front ++ x) (nothing_left old.checker line ok) ∙ append-nil r.front)) r.spells
 
     pub log_is_right : AreEnded F cubes (files ++ bytes ∷ []) written new
     log_is_right = record {
       logs = logs ++ record { steps = r.log; accepted = true } ∷ [];
-      closing = log_more F logs files bytes r.log are whole r.within.within.is_log;
+      closing = log_more F r.within.within.vars logs files bytes r.log are whole r.within.within.is_log;
       between = (end F cubes logs r.log written r.within).0;
     }
 
     tells_by : (t : Bool) → b ≡ t → IsLogOutcome F cubes files bytes (Ok tt) (cond t ends.Closes ends.ClosesNothing)
     tells_by true e = inl (refl, newly_more F cubes logs files bytes r.log are whole r.within.within.is_log (((end F cubes logs r.log written r.within).1 refl).0 e))
-    tells_by false e = inr (refl, λ more. true≢false (sym (((end F cubes logs r.log written r.within).1 refl).1 (more_newly F cubes logs files bytes r.log are whole more)) ∙ e))
+    tells_by false e = inr (refl, λ more. true≢false (sym (((end F cubes logs r.log written r.within).1 refl).1 (more_newly F r.within.within.vars cubes logs files bytes r.log are whole more)) ∙ e))
 
     pub tells_right : (e : FileOutcome) → e ≡ cond b ends.Closes ends.ClosesNothing → IsFileOutcome F cubes files bytes e
     tells_right e is = tells_log F cubes files bytes (Ok tt) e kind (answers ∙ sym ok) (subst (IsLogOutcome F cubes files bytes (Ok tt)) (sym is) (tells_by b refl))
@@ -215,7 +217,7 @@ pub faulty_ends : (F : Cnf) (cubes : List Cube) (files : List (List ℕ)) (logs 
     → IsWithinLog F cubes logs log written old → EndsUnused old new → log_of F bytes ≡ Err fault → AreEnded F cubes (files ++ bytes ∷ []) written new
 faulty_ends F cubes files logs log bytes written old new fault are h leaves is = record {
   logs = logs ++ record { steps = log; accepted = false } ∷ [];
-  closing = nothing_more F (logs ++ record { steps = log; accepted = false } ∷ []) files bytes (refused_more F logs files log are) (faulty_closes_none F bytes fault is);
+  closing = nothing_more F (logs ++ record { steps = log; accepted = false } ∷ []) files bytes (refused_more F logs files log are) (faulty_closes_none F h.within.vars bytes fault is);
   between = (leaves.1 F cubes logs log written h).0;
 }
 
@@ -248,7 +250,7 @@ within_forgets : (F : Cnf) (cubes : List Cube) (logs : List Handed) (log : List 
     → IsWithinLog F cubes logs log (written ++ l.out.items) (record { checker = l.checker; joiner = l.joiner; out = none })
 within_forgets F cubes logs log written l none is h = record {
   within = subst (λ (w : List ℕ). WithinLog F cubes logs log l.joiner w) (sym (ap (λ (x : List ℕ). (written ++ l.out.items) ++ x) is ∙ append-nil (written ++ l.out.items))) h.within;
-  behind = h.behind;
+  after = h.after;
 }
 
 pub forgets : (r : FileState) (F : Cnf) (cubes : List Cube) (logs : List Handed) (bytes line written : List ℕ) (l : CheckedLines) (none : Vec ℕ) → none.items ≡ [] → HasReadPart r F cubes logs bytes line written l
@@ -286,6 +288,16 @@ leaves_read (Answer reader) F cubes files logs bytes line written l are h = betw
 -- the leaves of a join are those of its tree, and exactly those are closed that one of its files closes
 pub leaves_are : (F : Cnf) (cubes : List Cube) (files : List (List ℕ)) (bytes written : List ℕ) (j : Join) → HasReadFiles F cubes files bytes written j → LeavesClosedByFiles F cubes files (leaves_of j.lines.joiner)
 leaves_are F cubes files bytes written j h = leaves_read j.reading F cubes files h.stands.logs bytes j.begun written j.lines h.stands.closing h.stands.read
+
+-- ---- the limit of the variables
+most_read : (r : FileState) (F : Cnf) (cubes : List Cube) (logs : List Handed) (bytes line written : List ℕ) (l : CheckedLines) → HasReadPart r F cubes logs bytes line written l → l.checker.most ≡ log_top F
+most_read Begun F cubes logs bytes line written l h = h.between.stands.most
+most_read Log F cubes logs bytes line written l h = h.within.after.stands.most
+most_read (RefusedBy fault) F cubes logs bytes line written l h = h.within.after.stands.most
+most_read (Answer reader) F cubes logs bytes line written l h = h.between.stands.most
+
+pub most_is : (F : Cnf) (cubes : List Cube) (files : List (List ℕ)) (bytes written : List ℕ) (j : Join) → HasReadFiles F cubes files bytes written j → j.lines.checker.most ≡ log_top F
+most_is F cubes files bytes written j h = most_read j.reading F cubes h.stands.logs bytes j.begun written j.lines h.stands.read
 
 -- ---- places
 with_few : (b : Bool) (n : ℕ) (places : List ℕ) → n + 1 < 2 ^ 64 → All (λ p. p + 1 < 2 ^ 64) places → All (λ p. p + 1 < 2 ^ 64) (with_open b n places)
@@ -385,7 +397,7 @@ module _ (old : Join) (F : Cnf) (cubes : List Cube) (files : List (List ℕ)) (b
         (subst (AreEnded F cubes (files ++ bytes ∷ []) written) (sym same) (nothing_ends F cubes files h.stands.logs old.begun written old.lines h.stands.closing bytes reads_nothing))
 
     pub tell_nothing : IsFileOutcome F cubes files bytes ends.ClosesNothing
-    tell_nothing = tells_nothing F cubes files bytes reads_nothing.no_byte
+    tell_nothing = tells_nothing F reads_nothing.between.between.vars cubes files bytes reads_nothing.no_byte
 
     pub leave_nothing : (j : Join) → IsNext old j → j.lines ≡ old.lines → HasReadFiles F cubes files [] written j
     leave_nothing j n same = next_of F cubes files files bytes written old j n h

@@ -5,11 +5,13 @@ use Rattle.std.proofs.lemmas.Bool.{cases_lt}
 use Rattle.std.proofs.lemmas.List.{take_all}
 use Rattle.std.proofs.Math.Seq.{take-length}
 use Rattle.std.specs.FinMap.{get}
+use Rattle.std.specs.List.{All}
 use Rattle.dimacs.specs.logic.ClauseMap.{ClauseMap, map_of}
 use Rattle.dimacs.specs.logic.Cnf.{Cnf}
 use Rattle.icnf.specs.Leaves.{Cube}
 use Rattle.lrat_check.specs.Logs.{IsBegun, LogState, HoldsFormula, DeletesPrefix, ids_of}
-use Rattle.lrat_text.specs.Log.{IsLogStep, after_step, top_after}
+use Rattle.lrat_text.specs.Grammar.{IsClauseNumber, IsStepWithin}
+use Rattle.lrat_text.specs.Log.{IsLogStep, after_step, log_top, top_after}
 use Rattle.lrat_text.specs.Runs.{after_steps, top_of}
 use Rattle.lrat_check.proofs.Taken.{removed-without}
 use Rattle.lrat_text.proofs.RunLemmas.{after_append, top_append}
@@ -32,6 +34,10 @@ step_follows F log old step b h =
     subst (λ (n : ℕ). IsLogStep (length F.clauses) (after_steps (map_of F) log) n step) b.top
     (subst (λ (M : ClauseMap). IsLogStep (length F.clauses) M old.top step) b.live
     (subst (λ (n : ℕ). IsLogStep n old.live old.top step) b.base h))
+
+-- and is within the limits of its lines
+pub step_small : (F : Cnf) (log : List Step) (old : LogState) (step : Step) → IsAfterSteps F log old → IsStepWithin old.most step → IsStepWithin (log_top F) step
+step_small F log old step b h = subst (λ (n : ℕ). IsStepWithin n step) b.stands.most h
 
 -- and the checker is after it
 pub one_behind : (F : Cnf) (log : List Step) (old new : LogState) (step : Step) → IsAfterSteps F log old → new.base ≡ old.base → new.live ≡ after_step old.live step
@@ -111,7 +117,7 @@ cut_is_empty F cubes logs log written l h none = (
   log,
   record {
     within = h.within;
-    behind = record {
+    after = record {
       base = h.base;
       live = subst (λ (ids : List ℕ). l.checker.live ≡ after_step (after_steps (map_of F) log) (Delete ids)) none h.live ∙ sym (removed-without (after_steps (map_of F) log) []);
       top = h.top;
@@ -122,12 +128,12 @@ cut_is_empty F cubes logs log written l h none = (
 
 -- the part that was carried out is written
 pub cut_is_written : (F : Cnf) (cubes : List Cube) (logs : List Handed) (log : List Step) (written : List ℕ) (l : CheckedLines) (h : HasPartialDeletion F cubes logs log written l) (g : LogJoiner) (out : Vec ℕ) (ids : List ℕ)
-    → take l.checker.cut (ids_of l.checker.step) ≡ ids
+    → take l.checker.cut (ids_of l.checker.step) ≡ ids → All IsClauseNumber ids
     → Appends l.out.items out.items (λ more. (G : Cnf) (qs : List Cube) (hs : List Handed) (steps : List Step) (before : List ℕ)
     → WithinLog G qs hs steps l.joiner before → IsLogStep (length G.clauses) (after_steps (map_of G) steps) (top_of (length G.clauses) steps) (Delete ids)
-    → WithinLog G qs hs (steps ++ Delete ids ∷ []) g (before ++ more))
+    → IsStepWithin (log_top G) (Delete ids) → WithinLog G qs hs (steps ++ Delete ids ∷ []) g (before ++ more))
     → IsWithinSomeLog F cubes logs written (record { checker = l.checker; joiner = g; out = out })
-cut_is_written F cubes logs log written l h g out ids are put =
+cut_is_written F cubes logs log written l h g out ids are numbered put =
     let follows : IsLogStep (length F.clauses) (after_steps (map_of F) log) (top_of (length F.clauses) log) (Delete ids) =
     subst (λ (xs : List ℕ). IsLogStep (length F.clauses) (after_steps (map_of F) log) (top_of (length F.clauses) log) (Delete xs)) are h.follows in
     let live : l.checker.live ≡ after_step (after_steps (map_of F) log) (Delete ids) =
@@ -135,8 +141,8 @@ cut_is_written F cubes logs log written l h g out ids are put =
       log ++ Delete ids ∷ [],
       record {
         within = appended (λ (w : List ℕ). WithinLog F cubes logs (log ++ Delete ids ∷ []) g w) written l.out.items out.items put.0 put.1
-            (put.2 F cubes logs log (written ++ l.out.items) h.within follows);
-        behind = record {
+            (put.2 F cubes logs log (written ++ l.out.items) h.within follows numbered);
+        after = record {
           base = h.base;
           live = live ∙ sym (after_append (map_of F) log (Delete ids ∷ []));
           top = h.top ∙ sym (top_append (length F.clauses) log (Delete ids ∷ []));
@@ -150,10 +156,10 @@ pub refused_within : (F : Cnf) (cubes : List Cube) (logs : List Handed) (log : L
     → HasPartialDeletion F cubes logs log written (record { checker = s; joiner = l.joiner; out = l.out })
 refused_within F cubes logs log written l s h cut stands = record {
   within = h.within;
-  base = cut.base ∙ h.behind.base;
-  follows = step_follows F log l.checker (Delete (take s.cut (ids_of s.step))) h.behind cut.follows;
-  live = cut.live ∙ ap (λ (M : ClauseMap). after_step M (Delete (take s.cut (ids_of s.step)))) h.behind.live;
-  top = cut.top ∙ h.behind.top;
+  base = cut.base ∙ h.after.base;
+  follows = step_follows F log l.checker (Delete (take s.cut (ids_of s.step))) h.after cut.follows;
+  live = cut.live ∙ ap (λ (M : ClauseMap). after_step M (Delete (take s.cut (ids_of s.step)))) h.after.live;
+  top = cut.top ∙ h.after.top;
   stands = stands;
 }
 

@@ -1,5 +1,5 @@
 -- Searches by one session, and their parts of its log.
-use Rattle.std.proofs.Common.{◌≡◌, ℕ, ◌+◌, ◌≤◌, inl, inr, true, ◌&&◌, List, [], ◌∷◌, ◌++◌, length, map, nat_eq, Some, refl, sym, ◌∙◌, ap, subst, arith, append_assoc}
+use Rattle.std.proofs.Common.{◌≡◌, ℕ, ◌+◌, ◌≤◌, ◌<◌, ◌^◌, max, inl, inr, true, ◌&&◌, List, [], ◌∷◌, ◌++◌, length, map, nat_eq, Some, refl, sym, ◌∙◌, ap, subst, arith, append_assoc}
 use Rattle.std.specs.FinMap.{insert}
 use Rattle.std.specs.List.{All, Contains, IsDistinct}
 use Rattle.std.proofs.lemmas.List.{append-nil}
@@ -18,16 +18,16 @@ use Rattle.cube_solve.specs.declared.answer.Answer.TheVariants as answer
 use Rattle.cube_solve.specs.declared.session.Session.{Session}
 use Rattle.cube_solve.proofs.SearchLemmas.{cube_sound}
 use Rattle.log_join.specs.ClosedLeaves.{closes}
-use Rattle.log_join.proofs.PlacedLemmas.{log_top}
-use Rattle.lrat_text.specs.Grammar.{IsClauseNumber, IsStep, LineSpells}
-use Rattle.lrat_text.specs.Log.{AreLogSteps, additions}
+use Rattle.log_join.proofs.PlacedLemmas.{counted_top}
+use Rattle.lrat_text.specs.Grammar.{IsClauseNumber, IsStepWithin, LineSpellsWithin}
+use Rattle.lrat_text.specs.Log.{AreLogSteps, additions, log_top}
 use Rattle.lrat_text.specs.Runs.{after_steps, text_of, top_of}
 use Rattle.lrat_text.specs.WrittenLine.{line_of, line_text}
 use Rattle.lrat_text.specs.declared.step.Step.{Step}
 use Rattle.lrat_text.specs.declared.step.Step.TheVariants.{Add, Delete}
 use Rattle.lrat_text.proofs.ClauseMapLemmas.{get_here, get_other}
-use Rattle.lrat_text.proofs.LineLemmas.{written_one_line, written_spells}
-use Rattle.lrat_text.proofs.RunLemmas.{after_append, log_append, spells_append, top_append}
+use Rattle.lrat_text.proofs.LineLemmas.{spells_more, written_one_line_within, written_spells_within}
+use Rattle.lrat_text.proofs.RunLemmas.{after_append, log_append, spells_append_within, top_append}
 use Rattle.leaves.specs.BlockSearch.{Closed, Limit}
 use Rattle.leaves.specs.inner.BlockSearch.{HasEnded, IsAnswered, AnswerIsRight, HasSearched}
 use Rattle.leaves.specs.declared.search_session.SearchSession.{SearchSession}
@@ -57,59 +57,67 @@ says_so F closing q limit count last new vars M answer.Unknown same grew right u
 
 module _ {P : Type 0} (F : Cnf) (closing : List Clause) (steps : List Step) (s u : SearchSession P) where
   -- ---- a query
-  pub is_answered : (mid : Session P) (q : Cube) (limit : ℕ) (a : Answer) → LogGrows s.session mid → ((G : List Clause) → AreGiven G s.session → AreGiven G mid) → vars_of mid ≡ vars_of s.session
+  pub is_answered : (mid : Session P) (q : Cube) (limit : ℕ) (a : Answer) → vars_of s.session ≤ 199999999 → LogGrows s.session mid → ((G : List Clause) → AreGiven G s.session → AreGiven G mid) → vars_of mid ≡ vars_of s.session
       → ((G : List Clause) → AreGiven G s.session → IsRightAnswer (vars_of s.session) G q a) → IfUnknown a (last_of mid ≡ last_of s.session + limit) → last_of mid ≤ last_of s.session + limit → HasFailed a mid
       → vars_of u.session ≡ vars_of mid → last_of u.session ≡ last_of mid → ((G : List Clause) → AreGiven G mid → AreGiven G u.session)
       → ((given : List ℕ) (M : ClauseMap) → IsKnown given M mid → IsKnown given M u.session) → log_of u.session ≡ [] → u.log ≡ s.log ++ log_of mid
       → HasSearched F closing steps s → IsAnswered F closing steps q limit a u
-  is_answered mid q limit a tells gave vars right unknown most failed vars_too last gives knows taken log h =
+  is_answered mid q limit a few tells gave vars right unknown most failed vars_too last gives knows taken log h =
       let m = length F.clauses in
       let M = after_steps (map_of F) steps in
       let top = last_of s.session in
       let t : LogGrowsFrom h.given M s.session mid = tells h.given M h.known in
       let own = t.steps in
       let text : log_of mid ≡ text_of top own = t.text ∙ ap (λ (x : List ℕ). x ++ text_of top own) h.taken in
-      let l : AreLogSteps m M top own = right_logged h.given m M top own h.first t.right in
+      let bound : ℕ = vars_of s.session in
+      let short : bound < 2 ^ 48 = omega (arith, few) in
+      let fits : bound ≤ max 2000000 F.vars = omega (arith, h.vars) in
+      let l : AreLogSteps m M top own = right_logged bound h.given m M top own h.first t.right in
+      let spelled : LineSpellsWithin (log_top F) (text_of top own) own = spells_more bound (log_top F) fits (text_of top own) own (right_spelled bound short h.given M top own t.right) in
       let after : after_steps (map_of F) (steps ++ own) ≡ after_steps M own = after_append (map_of F) steps own in
       record {
         own = own;
         stands = record {
           given = h.given;
           vars = vars_too ∙ vars ∙ h.vars;
-          spells = subst (λ (x : List ℕ). LineSpells x (steps ++ own)) (sym (log ∙ ap (λ (x : List ℕ). s.log ++ x) text)) (spells_append s.log (text_of top own) steps own h.spells (right_spelled h.given M top own t.right));
+          spells = subst (λ (x : List ℕ). LineSpellsWithin (log_top F) x (steps ++ own)) (sym (log ∙ ap (λ (x : List ℕ). s.log ++ x) text)) (spells_append_within (log_top F) s.log (text_of top own) steps own h.spells spelled);
           is_log = log_append m (map_of F) m steps own h.is_log (subst (λ k. AreLogSteps m M k own) h.last l);
           last = last ∙ t.last ∙ ap (λ k. top_of k own) h.last ∙ sym (top_append m steps own);
           taken = taken;
           known = subst (λ (N : ClauseMap). IsKnown h.given N u.session) (sym after) (knows h.given (after_steps M own) t.known);
           held = gives (F.clauses ++ closing) (gave (F.clauses ++ closing) h.held);
           first = h.first;
-          lives = λ C i. let x = h.lives C i in (x.0, x.1, x.2, subst (λ (N : ClauseMap). live_in N x.0 C) (sym after) (stays h.given M top own t.right x.0 x.1 (h.known.before x.0 x.1) C x.3));
+          lives = λ C i. let x = h.lives C i in (x.0, x.1, x.2, subst (λ (N : ClauseMap). live_in N x.0 C) (sym after) (stays bound h.given M top own t.right x.0 x.1 (h.known.before x.0 x.1) C x.3));
         };
         says = subst (λ (N : ClauseMap). AnswerIsRight F q limit N (additions own) a) (sym after)
-            (says_so F closing q limit (additions own) top (last_of mid) (vars_of s.session) (after_steps M own) a h.vars (t.last ∙ log_top m M top own l) (right (F.clauses ++ closing) h.held) unknown most
+            (says_so F closing q limit (additions own) top (last_of mid) (vars_of s.session) (after_steps M own) a h.vars (t.last ∙ counted_top m M top own l) (right (F.clauses ++ closing) h.held) unknown most
             (fails_in a mid failed h.given (after_steps M own) t.known));
       }
 
   -- ---- a lemma that stays
-  pub stands_closed : (w : Session P) (C : Clause) (hints : List ℕ) → vars_of w ≡ vars_of s.session → last_of w ≡ last_of s.session + 1 → IsClauseNumber (last_of w) → log_of w ≡ log_of s.session
+  pub stands_closed : (w : Session P) (C : Clause) (hints : List ℕ) → vars_of s.session ≤ 199999999 → vars_of w ≡ vars_of s.session → last_of w ≡ last_of s.session + 1 → IsClauseNumber (last_of w) → log_of w ≡ log_of s.session
       → ((G : List Clause) → AreGiven G s.session → AreGiven (G ++ C ∷ []) w)
       → ((given : List ℕ) (M : ClauseMap) → IsKnown given M s.session → IsKnown (given ++ last_of w ∷ []) (insert M (last_of w) C) w)
-      → IsStep (Add (last_of w) C hints []) → u.session ≡ w → u.log ≡ s.log ++ line_of (last_of w) (Add (last_of w) C hints [])
+      → IsStepWithin (vars_of s.session) (Add (last_of w) C hints []) → u.session ≡ w → u.log ≡ s.log ++ line_of (last_of w) (Add (last_of w) C hints [])
       → HasSearched F closing steps s → Rup (live_in (after_steps (map_of F) steps)) C hints → HasSearched F (closing ++ C ∷ []) (steps ++ Add (last_of u.session) C hints [] ∷ []) u
-  stands_closed w C hints vars next number none gives knows limits is log h rup =
+  stands_closed w C hints few vars next number none gives knows limits is log h rup =
+      let bound : ℕ = vars_of s.session in
+      let short : bound < 2 ^ 48 = omega (arith, few) in
+      let fits : bound ≤ max 2000000 F.vars = omega (arith, h.vars) in
       let m = length F.clauses in
       let M = after_steps (map_of F) steps in
       let id = last_of w in
       let step = Add id C hints [] in
       let same : last_of u.session ≡ id = ap (λ (x : Session P). last_of x) is in
-      let grown = log_top m (map_of F) m steps h.is_log in
+      let grown = counted_top m (map_of F) m steps h.is_log in
       let low : m ≤ last_of s.session = (let e = h.last in omega arith) in
       let after : after_steps (map_of F) (steps ++ step ∷ []) ≡ insert M id C = after_append (map_of F) steps (step ∷ []) in
       subst (λ k. HasSearched F (closing ++ C ∷ []) (steps ++ Add k C hints [] ∷ []) u) (sym same) (record {
         given = h.given ++ id ∷ [];
         vars = ap (λ (x : Session P). vars_of x) is ∙ vars ∙ h.vars;
-        spells = subst (λ (x : List ℕ). LineSpells x (steps ++ step ∷ [])) (sym log)
-            (spells_append s.log (line_of id step) steps (step ∷ []) h.spells (line_text id step, [], refl, written_one_line id step number limits, written_spells id step number limits, refl));
+        spells = subst (λ (x : List ℕ). LineSpellsWithin (log_top F) x (steps ++ step ∷ [])) (sym log)
+            (spells_append_within (log_top F) s.log (line_of id step) steps (step ∷ []) h.spells
+            (spells_more bound (log_top F) fits (line_of id step) (step ∷ []) (line_text id step, [], refl, written_one_line_within bound short id step number limits, written_spells_within bound short id step number limits, refl)));
         is_log = log_append m (map_of F) m steps (step ∷ []) h.is_log ((next ∙ ap (λ k. k + 1) h.last, refl, rup), tt);
         last = same ∙ sym (top_append m steps (step ∷ []));
         taken = ap (λ (x : Session P). log_of x) is ∙ none ∙ h.taken;
@@ -203,5 +211,5 @@ pub within_negated : (vars : ℕ) (core : List Literal) → All (IsWithin vars) 
 within_negated vars core h = all_of (IsWithin vars) (map negation core) (λ l i.
     subst (IsWithin vars) (negation-negation l) (IsWithin-negation vars (negation l) (All-contains (IsWithin vars) core (negation l) h (negated_from core l i))))
 
-pub within_limit : (vars : ℕ) (lits : List Literal) → vars ≤ 2000000 → All (IsWithin vars) lits → All (IsWithin 2000000) lits
-within_limit vars lits few h = All-weaker (IsWithin vars) (IsWithin 2000000) (λ l w. (w.0, (let u = w.1 in omega arith))) lits h
+pub within_limit : (vars : ℕ) (lits : List Literal) → vars ≤ 199999999 → All (IsWithin vars) lits → All (IsWithin 199999999) lits
+within_limit vars lits few h = All-weaker (IsWithin vars) (IsWithin 199999999) (λ l w. (w.0, (let u = w.1 in omega arith))) lits h

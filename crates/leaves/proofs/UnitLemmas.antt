@@ -28,7 +28,7 @@ unit_done q i l before pushed after empty unit at is so_far closed same put ende
     ended ∙ (ap (λ (o : Clause). pushed ++ o ∷ []) one ∙ (ap (λ (done : List Clause). done ++ (l ∷ []) ∷ []) (same ∙ so_far) ∙ sym (unit_more q i l at is)))
 
 -- they are few
-pub units_few : (q : List Literal) (i : ℕ) (before pushed : List Clause) → i < length q → length q ≤ 64 → before ≡ map (λ x. x ∷ []) (take i q) → pushed ≡ before → length pushed < 4000000
+pub units_few : (q : List Literal) (i : ℕ) (before pushed : List Clause) → i < length q → length q ≤ 64 → before ≡ map (λ x. x ∷ []) (take i q) → pushed ≡ before → length pushed < 99999999
 units_few q i before pushed at short so_far same =
     let e = ap (λ (done : List Clause). length done) (same ∙ so_far) in
     let n = length-map (take i q) (λ (x : Literal). x ∷ []) in

@@ -23,13 +23,13 @@ abbrev pub block_of : List Cube → ℕ → ℕ → Option (List Cube)
 block_of leaves first last =
     if nat_le 1 first && nat_le first last && nat_le last (length leaves) then Some (part_of leaves (first - 1) last) else None
 
--- formula, index of the first leaf in the tree (from 0), cubes of the leaves, `bytes` read, `written` bytes of the log that are already
--- handed out, the lift: the lift has read the bytes of a text for these leaves; the whole log so far is `written` and then the bytes that
+-- formula, index of the first leaf in the tree (from 0), cubes of the leaves, `bytes` read, `handed` bytes of the log that are already
+-- handed out, the lift: the lift has read the bytes of a text for these leaves; the whole log so far is `handed` and then the bytes that
 -- the lift still has
-pub record HasTakenBlock (F : Cnf) (place : ℕ) (cubes : List Cube) (bytes written : List ℕ) (l : BlockLift) : Type 0 where
+pub record HasTakenBlock (F : Cnf) (place : ℕ) (cubes : List Cube) (bytes handed : List ℕ) (l : BlockLift) : Type 0 where
   pub from : l.block.first ≡ place
   pub holds : part_of l.block.tree l.block.first l.block.end ≡ cubes
-  pub stands : HasLogged F bytes written l.log
+  pub stands : HasLogged F bytes handed l.log
 
 -- formula, index of the first leaf (from 0), cubes, the answer: if there are such leaves, the answer is a lift that has read no byte of a
 -- text for them; else it is None
@@ -45,7 +45,7 @@ BeginsBlock F leaves first last l = BeginsBlockOf F (first - 1) (block_of leaves
 
 -- a lift that has read some bytes has, after the call, read these bytes and then the piece; the bytes handed out are unchanged
 abbrev pub TakesBlockPiece : List ℕ → BlockLift → BlockLift → Type 0
-TakesBlockPiece piece old new = (F : Cnf) (place : ℕ) (cubes : List Cube) (bytes written : List ℕ) → HasTakenBlock F place cubes bytes written old → HasTakenBlock F place cubes (bytes ++ piece) written new
+TakesBlockPiece piece old new = (F : Cnf) (place : ℕ) (cubes : List Cube) (bytes handed : List ℕ) → HasTakenBlock F place cubes bytes handed old → HasTakenBlock F place cubes (bytes ++ piece) handed new
 
 -- formula, bytes of the text, bytes of the log, the lift, the answer: the log is the one that the text becomes if the answer is Ok; else
 -- the answer is the text's first fault

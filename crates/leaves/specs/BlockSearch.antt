@@ -9,8 +9,8 @@ use Rattle.leaves.specs.Join.{ClosesAsLog}
 use Rattle.leaves.specs.Leaf.{Prints, leaf_at, no_leaf_text}
 use Rattle.leaves.specs.LeafSearch.{Hands, closed_line, limit_line, shown}
 use Rattle.leaves.specs.declared.leaf_search.SearchOptions.{SearchOptions}
-use Rattle.lrat_text.specs.Grammar.{LineSpells}
-use Rattle.lrat_text.specs.Log.{EndsAt, IsLog, additions}
+use Rattle.lrat_text.specs.Grammar.{LineSpellsWithin}
+use Rattle.lrat_text.specs.Log.{EndsAt, IsLog, additions, log_top}
 use Rattle.lrat_text.specs.declared.step.Step.{Step}
 use Rattle.reports.specs.declared.report.Report.{Report}
 
@@ -79,7 +79,7 @@ ClosesAll F leaves n (e ∷ endings) log = ClosesTold F (leaf_at leaves n) e log
 -- the text `log` is a log over the formula, made of the steps of the searches under the leaves from the number `first` on, from 1; the
 -- whole log closes each leaf that its search has closed
 pub record IsLogOf (F : Cnf) (leaves : List Cube) (limit first : ℕ) (endings : List SearchEnd) (log : List ℕ) : Type 0 where
-  pub spells : LineSpells log (all_parts endings)
+  pub spells : LineSpellsWithin (log_top F) log (all_parts endings)
   pub is_log : IsLog F (all_parts endings)
   pub searched : AreSearched leaves limit first endings
   pub closes : ClosesAll F leaves first endings log

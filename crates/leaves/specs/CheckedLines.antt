@@ -28,4 +28,4 @@ pub record IsBetweenLogs (F : Cnf) (cubes : List Cube) (logs : List Handed) (wri
 -- and is in the whole proof so far (`written` and then the bytes not handed out yet)
 pub record IsWithinLog (F : Cnf) (cubes : List Cube) (logs : List Handed) (log : List Step) (written : List ℕ) (l : CheckedLines) : Type 0 where
   pub within : WithinLog F cubes logs log l.joiner (written ++ l.out.items)
-  pub behind : IsAfterSteps F log l.checker
+  pub after : IsAfterSteps F log l.checker

@@ -21,8 +21,8 @@ use Rattle.leaves.specs.declared.join.FileState.TheVariants.{Begun, Log, Refused
 use Rattle.leaves.specs.declared.checked_lines.CheckedLines.{CheckedLines}
 use Rattle.lrat_check.specs.Logs.{IsBegun, LogState, TakesLogLine, log_of}
 use Rattle.lrat_check.specs.declared.line_checker.CheckFault.{CheckFault}
-use Rattle.lrat_text.specs.Grammar.{LineSpells}
-use Rattle.lrat_text.specs.Log.{IsLog}
+use Rattle.lrat_text.specs.Grammar.{LineSpellsWithin}
+use Rattle.lrat_text.specs.Log.{IsLog, log_top}
 use Rattle.lrat_text.specs.Proof.{Accepts}
 use Rattle.lrat_text.specs.LineSink.{HandsOn}
 use Rattle.lrat_text.specs.declared.step.Step.{Step}
@@ -43,7 +43,7 @@ is_answer (b ∷ bs) = is_answer_letter b
 -- leaf
 pub record ClosesAsLog (F : Cnf) (q : Cube) (text : List ℕ) : Type 0 where
   pub steps : List Step
-  pub spells : LineSpells text steps
+  pub spells : LineSpellsWithin (log_top F) text steps
   pub is_log : IsLog F steps
   pub closes : ClosesLeaf F q steps
 
@@ -94,7 +94,7 @@ pub record HasReadLogSoFar (F : Cnf) (cubes : List Cube) (logs : List Handed) (b
   pub within : IsWithinLog F cubes logs log written l
   pub front : List ℕ
   pub whole : bytes ≡ front ++ line
-  pub spells : LineSpells front log
+  pub spells : LineSpellsWithin (log_top F) front log
   pub first : LogState
   pub begun : IsBegun F first
   pub checked : HandsOn TakesLogLine first bytes l.checker line

@@ -1,7 +1,8 @@
 -- The formula of a leaf of a splitting tree.
 use Rattle.std.specs.Prelude.{◌≡◌, ℕ, zero, suc, List, [], ◌∷◌, ◌++◌, Option, Some, None, map, codes, slice_get}
-use Rattle.dimacs.specs.logic.Cnf.{Cnf, IsFormula}
-use Rattle.dimacs.specs.text.Grammar.{spelling}
+use Rattle.dimacs.specs.logic.Cnf.{Cnf, FitsIn}
+use Rattle.dimacs.specs.logic.Limits.{Limits}
+use Rattle.dimacs.specs.text.Grammar.{SpellsWithin, spelling}
 use Rattle.icnf.specs.Leaves.{Cube}
 use Rattle.reports.specs.declared.report.Report.{Report}
 
@@ -28,16 +29,21 @@ pub record Prints (status : ℕ) (text : List ℕ) (r : Report) : Type 0 where
   pub text_is : r.stdout.items ≡ text
   pub no_proof : r.proof ≡ None
 
--- the formula is printed, status 0, if it is within the limits of a formula; else the text says that it is above a limit, status 1
-pub record PrintsFormula (G : Cnf) (r : Report) : Type 0 where
-  pub within : IsFormula G → Prints 0 (spelling G) r
-  pub above : ¬ (IsFormula G) → Prints 1 above_limit_text r
+-- the formula is printed, status 0, and the text spells it within all limits that it fits into
+pub record PrintsText (G : Cnf) (r : Report) : Type 0 where
+  pub prints : Prints 0 (spelling G) r
+  pub spells : (L : Limits) → FitsIn L G → SpellsWithin L (spelling G) G
 
--- what `leaf` prints of the leaf with this cube, or if there is no such leaf
-abbrev pub PrintsLeafOf : Cnf → Option Cube → Report → Type 0
-PrintsLeafOf F None r = Prints 1 no_leaf_text r
-PrintsLeafOf F (Some q) r = PrintsFormula (leaf_of q F) r
+-- the formula is printed, status 0, if it fits into the limits L; else the text says that it is above a limit, status 1
+pub record PrintsFormula (L : Limits) (G : Cnf) (r : Report) : Type 0 where
+  pub within : FitsIn L G → PrintsText G r
+  pub above : ¬ (FitsIn L G) → Prints 1 above_limit_text r
 
--- what `leaf` prints of the leaf of a number, from 1
-abbrev pub PrintsLeaf : Cnf → List Cube → ℕ → Report → Type 0
-PrintsLeaf F leaves number r = PrintsLeafOf F (leaf_at leaves number) r
+-- what `leaf` prints, within these limits, of a cube, or if there is none
+abbrev pub PrintsLeafOf : Limits → Cnf → Option Cube → Report → Type 0
+PrintsLeafOf L F None r = Prints 1 no_leaf_text r
+PrintsLeafOf L F (Some q) r = PrintsFormula L (leaf_of q F) r
+
+-- what `leaf` prints, within these limits, of the leaf of a number, from 1
+abbrev pub PrintsLeaf : Limits → Cnf → List Cube → ℕ → Report → Type 0
+PrintsLeaf L F leaves number r = PrintsLeafOf L F (leaf_at leaves number) r

@@ -14,16 +14,16 @@ use Rattle.proof_lift.specs.Stream.{HasTaken}
 use Rattle.reports.specs.Faults.{fault_text, step_fault_text}
 use Rattle.reports.specs.declared.report.Report.{Report}
 
--- formula, cube of the leaf, `bytes` read, `written` bytes of the log that are already handed out, the lift: the lift has read the bytes of
--- a proof of the formula under the cube; the whole log so far is `written` and then the bytes that the lift still has
-pub record HasTakenProof (F : Cnf) (q : Cube) (bytes written : List ℕ) (l : Lift) : Type 0 where
+-- formula, cube of the leaf, `bytes` read, `handed` bytes of the log that are already handed out, the lift: the lift has read the bytes of
+-- a proof of the formula under the cube; the whole log so far is `handed` and then the bytes that the lift still has
+pub record HasTakenProof (F : Cnf) (q : Cube) (bytes handed : List ℕ) (l : Lift) : Type 0 where
   pub formula : IsFormula F
   pub cube : IsCube F q
-  pub taken : HasTaken F q l.lifter bytes (written ++ l.out.items)
+  pub taken : HasTaken F q l.lifter bytes (handed ++ l.out.items)
 
 -- a lift that has read some bytes has, after the call, read these bytes and then the piece; the bytes handed out are unchanged
 abbrev pub TakesProofPiece : List ℕ → Lift → Lift → Type 0
-TakesProofPiece piece old new = (F : Cnf) (q : Cube) (bytes written : List ℕ) → HasTakenProof F q bytes written old → HasTakenProof F q (bytes ++ piece) written new
+TakesProofPiece piece old new = (F : Cnf) (q : Cube) (bytes handed : List ℕ) → HasTakenProof F q bytes handed old → HasTakenProof F q (bytes ++ piece) handed new
 
 -- formula, cube of the leaf, the answer: if there is such a leaf, the answer is a lift that has read no byte; else it is None
 abbrev pub BeginsCube : Cnf → Option Cube → Option Lift → Type 0

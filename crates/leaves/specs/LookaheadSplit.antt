@@ -1,22 +1,24 @@
 -- What `cubes --look` prints: trees that are grown by lookahead, and trees with a leaf that is cut in two by lookahead.
 use Rattle.std.specs.Prelude.{◌≡◌, ℕ, zero, suc, List, Option, Some, None, Result, Ok, Err, slice_get}
-use Rattle.dimacs.specs.logic.Cnf.{Cnf, greatest_in}
+use Rattle.dimacs.specs.logic.Cnf.{Cnf, FitsIn, greatest_in}
+use Rattle.dimacs.specs.logic.Limits.{Limits}
 use Rattle.dimacs.specs.declared.fault.DimacsFault.{DimacsFault}
 use Rattle.icnf.specs.Leaves.{Cube, IsTree, branched}
-use Rattle.icnf.specs.Grammar.{Spells, formula_of, spelling}
+use Rattle.icnf.specs.Grammar.{SpellsWithin, formula_of, spelling}
 use Rattle.leaves.specs.Leaf.{Prints, no_leaf_text}
 use Rattle.leaves.specs.LeafSplit.{cannot_split_text}
 use Rattle.look_ahead.specs.Grown.{IsGrown, MayBeCut}
 use Rattle.reports.specs.Faults.{input_fault_text}
 use Rattle.reports.specs.declared.report.Report.{Report}
 
--- the text spells a formula's clauses, and the cubes of a tree that is grown on their variables
+-- the text spells a formula's clauses, and the cubes of a tree that is grown on their variables, within all limits that the formula fits
+-- into
 pub record ShowsGrown (F : Cnf) (text : List ℕ) : Type 0 where
   pub cubes : List Cube
   pub tree : IsTree cubes
   pub grown : IsGrown (greatest_in F.clauses) cubes
   pub text_is : text ≡ spelling F.clauses cubes
-  pub spells : Spells text (formula_of F.clauses) cubes
+  pub spells : (L : Limits) → FitsIn L F → SpellsWithin L (spelling F.clauses cubes) (formula_of F.clauses) cubes
 
 -- what `cubes --look` prints of an input: of the formula that it spells, or its first fault
 abbrev pub PrintsGrown : Result Cnf DimacsFault → List ℕ → Type 0

@@ -44,14 +44,16 @@ pub fn put_leaf(out: &mut Vec<u8>, place: usize, is_closed: bool) -> Result<(), 
     }
 }
 
-/// Answers the report's status after one more leaf: `status` if the leaf is closed, and else 0.
-fn status_behind(status: u8, is_closed: bool) -> u8
+/// Answers the report's status after one more leaf: it stays if the leaf is closed, and becomes 0
+/// if not.
+fn status_after(status: u8, is_closed: bool) -> u8
     ensures { result ≡ (if is_closed then status else 0) }
 {
     if is_closed { status } else { 0 }
 }
 
-/// A lift for the leaves at the indices `first..end`, from 0, before the first byte of the text.
+/// A lift for a block of leaves, those at the indices `first..end`, from 0, before the first byte
+/// of the text.
 fn begin(alloc: Global, split: Split, first: usize, end: usize) -> Result<BlockLift, AllocError>
     requires some { first ≤ end }
     requires inside { end ≤ length split.tree }
@@ -96,16 +98,16 @@ impl BlockLift {
         self.log.feed(piece);
     }
 
-    /// The bytes of the log that were written since the last call of `forget`.
+    /// Lends the bytes of the log that were written since the last call of `forget`.
     pub fn written(&self) -> &[u8]
         ensures { result.now ≡ self.now.log.lines.out.items }
     {
         self.log.written()
     }
 
-    /// Drops the bytes that `written` answers, after the caller has handed them out.
+    /// Drops the bytes that `written` lends, after the caller has stored them.
     pub fn forget(&mut self)
-        ensures stands { (F : Cnf) (place : ℕ) (cubes : List Cube) (bytes written : List ℕ) → HasTakenBlock F place cubes bytes written self.old → HasTakenBlock F place cubes bytes (written ++ self.old.log.lines.out.items) self.new }
+        ensures stands { (F : Cnf) (place : ℕ) (cubes : List Cube) (bytes handed : List ℕ) → HasTakenBlock F place cubes bytes handed self.old → HasTakenBlock F place cubes bytes (handed ++ self.old.log.lines.out.items) self.new }
         ensures out { self.new.log.lines.out.items ≡ [] }
     {
         self.log.forget();
@@ -113,7 +115,7 @@ impl BlockLift {
 
     /// Ends the text. Answers Ok if all bytes that were written are the log that the text becomes, and else the text's first fault.
     pub fn finish(&self) -> Result<(), CheckFault>
-        ensures ends { (F : Cnf) (place : ℕ) (cubes : List Cube) (bytes written : List ℕ) → HasTakenBlock F place cubes bytes written self.now → EndsBlock F bytes (written ++ self.now.log.lines.out.items) self.now result }
+        ensures ends { (F : Cnf) (place : ℕ) (cubes : List Cube) (bytes handed : List ℕ) → HasTakenBlock F place cubes bytes handed self.now → EndsBlock F bytes (handed ++ self.now.log.lines.out.items) self.now result }
         ensures ended { OnOk result (IsEnded self.now.log) }
     {
         self.log.finish()
@@ -123,15 +125,15 @@ impl BlockLift {
     /// the log closes all of them, and else 0. An error is reported as `c no memory`, status 1.
     pub fn report(&self, alloc: Global) -> Result<Report, AllocError>
         requires { IsEnded self.now.log }
-        ensures { IfOk result (λ r. (F : Cnf) (place : ℕ) (cubes : List Cube) (bytes written : List ℕ) → HasTakenBlock F place cubes bytes written self.now → PrintsBlock F place cubes bytes (written ++ self.now.log.lines.out.items) r) }
+        ensures { IfOk result (λ r. (F : Cnf) (place : ℕ) (cubes : List Cube) (bytes handed : List ℕ) → HasTakenBlock F place cubes bytes handed self.now → PrintsBlock F place cubes bytes (handed ++ self.now.log.lines.out.items) r) }
     {
         let block = &self.block;
-        let _leaves = block.tree.leaves(); // its contract bounds the number of leaves
+        let _ = block.tree.leaves(); // its contract bounds the number of leaves
         let mut text = Vec::new(alloc);
         let mut status = 20;
         for place in block.first..block.end {
             let is_closed = self.log.closes(place - block.first, block.tree.cube(place));
-            status = status_behind(status, is_closed);
+            status = status_after(status, is_closed);
             put_leaf(&mut text, place, is_closed)?;
         }
         Report::of(alloc, &text, status)

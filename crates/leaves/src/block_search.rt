@@ -37,7 +37,7 @@ impl<P> Drop for BlockSearch<'_, P> {
 }
 
 /// Appends the line of the leaf of this number, from 1, which ends with `end`; appends nothing if `quiet`.
-fn tell(out: &mut Vec<u8>, leaf: u64, end: &[u8], quiet: bool) -> Result<(), AllocError>
+fn put_leaf_line(out: &mut Vec<u8>, leaf: u64, end: &[u8], quiet: bool) -> Result<(), AllocError>
     ensures { OnOk result (out.new.items ≡ out.old.items ++ shown quiet (codes "c leaf " ++ decimal leaf ++ end.now)) }
 {
     if quiet {
@@ -68,7 +68,7 @@ impl<'a, P: Propagator> BlockSearch<'a, P> {
 
     /// Appends the line of the leaf of this number, from 1, unless its search has found an assignment. Answers the assignment, or None if
     /// the leaf is closed or the search has reached its limit.
-    fn note(
+    fn note_leaf(
         &mut self,
         leaf: u64,
         found: Found,
@@ -80,12 +80,12 @@ impl<'a, P: Propagator> BlockSearch<'a, P> {
         match found {
             Found::Model(values) => Ok(Some(values)),
             Found::Closed => {
-                tell(&mut self.notes, leaf, b" closed\n", quiet)?;
+                put_leaf_line(&mut self.notes, leaf, b" closed\n", quiet)?;
                 Ok(None)
             }
             Found::Limit => {
                 self.closed = false;
-                tell(&mut self.notes, leaf, b" limit\n", quiet)?;
+                put_leaf_line(&mut self.notes, leaf, b" limit\n", quiet)?;
                 Ok(None)
             }
         }
@@ -110,7 +110,7 @@ impl<'a, P: Propagator> BlockSearch<'a, P> {
             return Ok(None);
         };
         let found = self.searches.search(alloc, cube, search.limit)?;
-        self.note(leaf, found, search.quiet)
+        self.note_leaf(leaf, found, search.quiet)
     }
 
     /// The report of searches that found no assignment: status 20 if every leaf is closed, and else 0; with the log.
@@ -155,7 +155,7 @@ fn refute_by<P: Propagator>(
     requires high { last ≤ length split.now.tree }
     ensures { IfOk result (λ r. FindsModel split.now.formula split.now.tree first last search.now r ⊎ SearchesAll split.now.formula split.now.tree first last search.now r) }
 {
-    let _leaves = split.tree.leaves(); // its contract bounds the number of leaves
+    let _ = split.tree.leaves(); // its contract bounds the number of leaves
     let mut run = BlockSearch::of(alloc, propagator, split)?;
     for leaf in first..last + 1 {
         if let Some(values) = run.search_leaf(alloc, split, leaf, search)? {

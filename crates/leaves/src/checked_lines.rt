@@ -48,7 +48,10 @@ impl TakesLines for CheckedLines {
 
     ghost refuses = { LineRefused };
 
+    /// Checks the next line of a log, and appends it to the joined proof under its new numbers. Of
+    /// a deletion that is refused, the proof gets the part that the checker has carried out.
     fn take_line(&mut self, line: &[u8]) -> Result<(), LineFault> {
+        let _ = self.checker.most(); // its contract bounds the limit of the variables
         match self.checker.take(line) {
             Ok(()) => {}
             Err(fault) => {
@@ -65,14 +68,16 @@ impl TakesLines for CheckedLines {
     }
 }
 
-/// Answers whether each of the numbers can stand in a line as the number of a clause: from 1 to 2^48 - 1.
-fn are_spelled(ids: &[u64]) -> bool
+/// Answers whether each is a clause number, from 1 to 2^48 - 1. Those read from a line are, but no
+/// contract says it of a line that was refused, so `cut` tests it.
+fn are_clause_numbers(ids: &[u64]) -> bool
     ensures { IsTrue result → All IsClauseNumber ids.now }
 {
     ids.iter().all(|id| 1 <= *id && *id < 1 << 48)
 }
 
-/// Answers whether at least one of the two holds.
+/// Answers whether at least one of the two holds. Unlike `||`, it evaluates both arguments, so that
+/// each lemma is handed over.
 fn either(one: bool, other: bool) -> bool
     ensures { result ≡ (one || other) }
 {
@@ -80,8 +85,8 @@ fn either(one: bool, other: bool) -> bool
 }
 
 impl CheckedLines {
-    /// Appends the prefix of a refused deletion that the checker has carried out before its fault. Err if a number is too long or memory is
-    /// refused.
+    /// Appends to the proof the part of a refused deletion that the checker has carried out, so
+    /// that both delete the same lemmas. Err if a number is too long or memory is refused.
     fn cut(&mut self) -> Result<(), LogJoinFault>
         ensures { OnOk result (WritesPartialDeletion self.old self.new) }
     {
@@ -93,7 +98,7 @@ impl CheckedLines {
             return Ok(());
         };
         let ids = &ids[..cut.min(ids.len())];
-        if !are_spelled(ids) {
+        if !are_clause_numbers(ids) {
             return Err(LogJoinFault::TooLong);
         }
         self.joiner.line(StepRef::Delete { ids }, &mut self.out)
@@ -107,8 +112,8 @@ impl CheckedLines {
         self.joiner.begin();
     }
 
-    /// Hands the lemma of this number of an accepted log to the joiner, if the lemma is live: it closes the open leaves that it can.
-    /// Answers whether it closes one.
+    /// Hands a lemma of an accepted log to the joiner, if it is live at the log's end: it closes
+    /// the open leaves that it can. Answers whether it closes one.
     fn settle_at(&mut self, number: u64) -> Result<bool, LogJoinFault>
         requires { 1 ≤ number }
         ensures over { OnOk result (HandsOver true number self.old self.new) }
@@ -122,7 +127,8 @@ impl CheckedLines {
         }
     }
 
-    /// Hands the lemma of this number of a refused log to the joiner, if the lemma is live: it closes no leaf, and will be deleted.
+    /// Hands a lemma of a refused log to the joiner, if it is live at the log's end: it closes no
+    /// leaf, and is deleted in the proof.
     fn spend_at(&mut self, number: u64) -> Result<(), LogJoinFault>
         requires { 1 ≤ number }
         ensures over { OnOk result (HandsOver false number self.old self.new) }
@@ -151,8 +157,8 @@ impl CheckedLines {
         Ok(false)
     }
 
-    /// Hands the live lemmas of a log that has ended to the joiner, by rising numbers. Answers whether one of them closes an open leaf;
-    /// never if the log is not accepted.
+    /// Hands the live lemmas of a log that has ended to the joiner, by rising numbers. Answers
+    /// whether one of them closes an open leaf; never if the log is not accepted.
     fn settle(&mut self, accepted: bool) -> Result<bool, LogJoinFault>
         ensures { IfOk result (SettlesLog accepted self.old self.new) }
     {

@@ -26,8 +26,8 @@ pub enum FileOutcome {
     Satisfies(Assignment),
 }
 
-/// The outcome of a solver's answer: `Satisfies` if its assignment satisfies the formula, `ClosesNothing` if not, `Refused` with its first
-/// fault.
+/// The outcome of a file that is a solver's answer: `Satisfies` if its assignment satisfies the
+/// formula, `ClosesNothing` if not, `Refused` with its first fault.
 pub(crate) fn answered(
     alloc: Global,
     formula: &Formula,
@@ -64,7 +64,8 @@ pub(crate) fn accept(lines: &mut CheckedLines) -> Result<FileOutcome, LogJoinFau
     Ok(FileOutcome::ClosesNothing)
 }
 
-/// Ends a log whose lemmas close no leaf: they are deleted in the proof.
+/// Ends a log that was refused or not read to its end: its lemmas close no leaf, and are deleted in
+/// the proof.
 pub(crate) fn leave(lines: &mut CheckedLines) -> Result<(), LogJoinFault>
     ensures { OnOk result (EndsUnused lines.old lines.new) }
 {

@@ -1,10 +1,11 @@
 //! `join`: joins the logs of any machines to one proof of the formula.
 
-ghost use Rattle.std.specs.Prelude.{◌≡◌, ◌==◌, ◌∷◌, ◌++◌, ℕ, List, [], true, false, IfOk, OnOk};
+ghost use Rattle.std.specs.Prelude.{◌≡◌, ◌≤◌, ◌==◌, ◌∷◌, ◌++◌, ℕ, List, [], true, false, IfOk, OnOk};
 ghost use Rattle.dimacs.specs.logic.Cnf.{Cnf, IsFormula};
 ghost use Rattle.log_join.specs.Written.{leaves_of};
 ghost use Rattle.icnf.specs.Leaves.{Cube};
 ghost use Rattle.leaves.specs.Join.{Concludes, HasReadFiles, IsFileOutcome, is_answer_letter};
+ghost use Rattle.lrat_text.specs.Log.{log_top};
 ghost use Rattle.leaves.specs.inner.Join.{IsStopped, KeepsJoined, OpensAs, StaysAs, JoinsPiece, ReportsMissing};
 
 use crate::checked_lines::{CheckedLines, LineFault};
@@ -75,6 +76,7 @@ impl Join {
     {
         let Split { formula, tree } = split;
         let _ = tree.leaves(); // its contract bounds the number of leaves
+        let _ = formula.vars(); // and its contract the variables
         let checker = LogChecker::of(alloc, formula.copy()?)?;
         let joiner = LogJoiner::of(alloc, &tree, checker.base())?;
         Ok(Join {
@@ -90,7 +92,8 @@ impl Join {
         })
     }
 
-    /// Decides by the file's first byte whether the file is an answer or a log. Does nothing if that is decided.
+    /// Decides by the file's first byte whether the file is a solver's answer or a log. Does
+    /// nothing if that is decided.
     fn open(&mut self, first: u8)
         ensures stands { KeepsJoined self.old self.new }
         ensures kind { OpensAs first self.old.reading self.new.reading }
@@ -107,7 +110,8 @@ impl Join {
         self.reading = FileState::Log;
     }
 
-    /// Reads the next piece of a log. A fault of the log is kept for `end`; Err if the proof cannot be written or memory is refused.
+    /// Checks and joins the next piece of a log. A fault of the log is kept for `end`; Err if the
+    /// proof cannot be written or memory is refused.
     fn read(&mut self, piece: &[u8]) -> Result<(), LogJoinFault>
         requires { self.old.reading ≡ FileState.Log }
         ensures stands { OnOk result (JoinsPiece piece.now self.old self.new) }
@@ -119,12 +123,12 @@ impl Join {
         };
         match fault {
             PieceFault::NoMemory => Err(LogJoinFault::NoMemory),
-            PieceFault::Line(fault) => self.stop(fault),
+            PieceFault::Line(fault) => self.keep_fault(fault),
         }
     }
 
     /// Keeps the fault of a refused line, so that the rest of the file is skipped. Err if memory is refused or the proof cannot be written.
-    fn stop(&mut self, fault: LineFault) -> Result<(), LogJoinFault>
+    fn keep_fault(&mut self, fault: LineFault) -> Result<(), LogJoinFault>
         ensures { OnOk result (IsStopped fault self.old self.new) }
     {
         match fault {
@@ -195,14 +199,22 @@ impl Join {
         }
     }
 
-    /// The bytes of the proof that were written since the last call of `forget`.
+    /// Answers the greatest variable that a log may have.
+    pub fn most(&self) -> u32
+        ensures value { (F : Cnf) (cubes : List Cube) (files : List (List ℕ)) (bytes written : List ℕ) → HasReadFiles F cubes files bytes written self.now → result ≡ log_top F }
+        ensures limit { result ≤ 199999999 }
+    {
+        self.lines.checker.most()
+    }
+
+    /// Lends the bytes of the proof that were written since the last call of `forget`.
     pub fn written(&self) -> &[u8]
         ensures { result.now ≡ self.now.lines.out.items }
     {
         &self.lines.out
     }
 
-    /// Drops the bytes that `written` answers, after the caller has handed them out.
+    /// Drops the bytes that `written` lends, after the caller has stored them.
     pub fn forget(&mut self)
         ensures holds { (F : Cnf) (cubes : List Cube) (files : List (List ℕ)) (bytes written : List ℕ)
             → HasReadFiles F cubes files bytes written self.old → HasReadFiles F cubes files bytes (written ++ self.old.lines.out.items) self.new }
@@ -211,7 +223,8 @@ impl Join {
         self.lines.out.clear();
     }
 
-    /// The report if some leaf is open: `notes`, a line for each open leaf, and `s UNKNOWN`; status 0.
+    /// The report if some leaf is open: the lines `notes`, a line for each open leaf, and `s
+    /// UNKNOWN`; status 0.
     fn unknown(&self, mut notes: Vec<u8>) -> Result<Report, LogJoinFault>
         ensures { IfOk result (ReportsMissing notes.items (leaves_of self.now.lines.joiner)) }
     {

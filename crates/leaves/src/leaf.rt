@@ -4,10 +4,10 @@ ghost use Rattle.std.specs.Prelude.{◌≡◌, ◌≤◌, ◌∷◌, [], map, na
 ghost use Rattle.std.specs.List.{IsDistinct};
 ghost use Rattle.dimacs.specs.logic.Cnf.{AreWithin};
 ghost use Rattle.dimacs.specs.logic.Literal.{IsWithin, var_of};
-ghost use Rattle.leaves.specs.Leaf.{PrintsFormula, PrintsLeaf, Prints, above_limit_text, leaf_at, leaf_of, no_leaf_text};
+ghost use Rattle.leaves.specs.Leaf.{PrintsFormula, PrintsLeaf, PrintsText, Prints, above_limit_text, leaf_at, leaf_of, no_leaf_text};
 
 use crate::split::Split;
-use dimacs::{Builder, Extension, Formula, Lit};
+use dimacs::{Builder, Extension, Formula, Limits, Lit};
 use icnf::Tree;
 use reports::Report;
 use std::alloc::{AllocError, Global};
@@ -27,7 +27,8 @@ pub(crate) fn cube_of(tree: &Tree, leaf: u64) -> Option<&[Lit]>
     Some(tree.cube(leaf as usize - 1))
 }
 
-/// Builds a unit clause for each literal of a cube.
+/// Builds a unit clause for each literal of a cube: the clauses that the formula of a leaf has in
+/// addition.
 fn units(alloc: Global, vars: u32, cube: &[Lit]) -> Result<Extension, AllocError>
     requires within { All (IsWithin vars) cube.now }
     requires short { length cube.now ≤ 64 }
@@ -41,31 +42,46 @@ fn units(alloc: Global, vars: u32, cube: &[Lit]) -> Result<Extension, AllocError
     Ok(builder.finish_extension(vars))
 }
 
-/// The report of the formula of a leaf, status 0; or `c leaf above limit`, status 1, if that formula is above a limit.
-fn printed(alloc: Global, formula: &Formula, cube: &[Lit]) -> Result<Report, AllocError>
+/// The report of a formula.
+fn formula_report(alloc: Global, formula: &Formula) -> Result<Report, AllocError>
+    ensures { IfOk result (PrintsText formula.now) }
+{
+    let mut report = Report::of(alloc, b"", 0)?;
+    dimacs::write(formula, &mut report.stdout)?;
+    Ok(report)
+}
+
+/// The report of the formula of a leaf, status 0; or `c leaf above limit`, status 1, if that formula is above one of these limits.
+fn printed(
+    alloc: Global,
+    limits: Limits,
+    formula: &Formula,
+    cube: &[Lit],
+) -> Result<Report, AllocError>
     requires within { All (IsWithin formula.now.vars) cube.now }
     requires short { length cube.now ≤ 64 }
-    ensures { IfOk result (PrintsFormula (leaf_of cube.now formula.now)) }
+    ensures { IfOk result (PrintsFormula limits (leaf_of cube.now formula.now)) }
 {
     let units = units(alloc, formula.vars(), cube)?;
-    match formula.extended(alloc, &units)? {
+    match formula.extended_within(alloc, limits, &units)? {
         None => Report::of(alloc, b"c leaf above limit\n", 1),
-        Some(leaf) => {
-            let mut report = Report::of(alloc, b"", 0)?;
-            dimacs::write(&leaf, &mut report.stdout)?;
-            Ok(report)
-        }
+        Some(leaf) => formula_report(alloc, &leaf),
     }
 }
 
 /// The report of the leaf of this number, from 1: its formula as DIMACS text, which has the formula's clauses and then a unit clause for
-/// each literal of the cube, status 0. If there is no such leaf, or its formula is above a limit, the report says so, status 1. An error is
-/// reported as `c no memory`, status 1.
-pub fn run_leaf(alloc: Global, split: &Split, leaf: u64) -> Result<Report, AllocError>
-    ensures { IfOk result (PrintsLeaf split.now.formula split.now.tree leaf) }
+/// each literal of the cube, status 0. If there is no such leaf, or its formula is above these limits, the report says so, status 1. An
+/// error is reported as `c no memory`, status 1.
+pub fn run_leaf(
+    alloc: Global,
+    limits: Limits,
+    split: &Split,
+    leaf: u64,
+) -> Result<Report, AllocError>
+    ensures { IfOk result (PrintsLeaf limits split.now.formula split.now.tree leaf) }
 {
     match cube_of(&split.tree, leaf) {
         None => Report::of(alloc, NO_LEAF, 1),
-        Some(cube) => printed(alloc, &split.formula, cube),
+        Some(cube) => printed(alloc, limits, &split.formula, cube),
     }
 }

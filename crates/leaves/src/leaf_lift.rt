@@ -69,16 +69,16 @@ impl Lift {
         let _ = self.lifter.feed(piece, &mut self.out);
     }
 
-    /// The bytes of the log that were written since the last call of `forget`.
+    /// Lends the bytes of the log that were written since the last call of `forget`.
     pub fn written(&self) -> &[u8]
         ensures { result.now ≡ self.now.out.items }
     {
         &self.out
     }
 
-    /// Drops the bytes that `written` answers, after the caller has handed them out.
+    /// Drops the bytes that `written` lends, after the caller has stored them.
     pub fn forget(&mut self)
-        ensures stands { (F : Cnf) (q : Cube) (bytes written : List ℕ) → HasTakenProof F q bytes written self.old → HasTakenProof F q bytes (written ++ self.old.out.items) self.new }
+        ensures stands { (F : Cnf) (q : Cube) (bytes handed : List ℕ) → HasTakenProof F q bytes handed self.old → HasTakenProof F q bytes (handed ++ self.old.out.items) self.new }
         ensures out { self.new.out.items ≡ [] }
     {
         self.out.clear();
@@ -87,12 +87,12 @@ impl Lift {
     /// Ends the proof. Answers the last bytes of the log that are not handed out yet, or the first fault of the proof.
     pub fn finish(self) -> Result<Vec<u8>, CheckFault>
         // Whatever came in, the bytes handed out and those that are left are a log over the formula that closes the leaf.
-        ensures closes { IfOk result (λ rest. (F : Cnf) (q : Cube) (bytes written : List ℕ) → HasTakenProof F q bytes written self → Closes F q (written ++ rest.items)) }
+        ensures closes { IfOk result (λ rest. (F : Cnf) (q : Cube) (bytes handed : List ℕ) → HasTakenProof F q bytes handed self → Closes F q (handed ++ rest.items)) }
         // A refutation of the leaf's formula by reverse unit propagation alone is refused only if memory is refused.
-        ensures complete { (F : Cnf) (q : Cube) (bytes written : List ℕ) → HasTakenProof F q bytes written self → IsRefutation (leaf_of q F) bytes → EndsLifted result }
+        ensures complete { (F : Cnf) (q : Cube) (bytes handed : List ℕ) → HasTakenProof F q bytes handed self → IsRefutation (leaf_of q F) bytes → EndsLifted result }
         // The fault is the proof's first one, with its line. It is 13 exactly if only the empty lemma is missing, and no hints close the
         // leaf.
-        ensures exact { IfErr result (λ fault. (F : Cnf) (q : Cube) (bytes written : List ℕ) → HasTakenProof F q bytes written self → (fault ≡ no_memory) ⊎ IsFaultOf F q bytes fault) }
+        ensures exact { IfErr result (λ fault. (F : Cnf) (q : Cube) (bytes handed : List ℕ) → HasTakenProof F q bytes handed self → (fault ≡ no_memory) ⊎ IsFaultOf F q bytes fault) }
     {
         let Lift { lifter, mut out } = self;
         lifter.finish(&mut out)?;

@@ -30,8 +30,9 @@ fn is_free(cube: &[Lit], variable: u32) -> bool
     cube.iter().all(|l| l.var().number() != variable)
 }
 
-/// The variable of this number, if the cube may be cut on it; None if no clause has a variable of this number or above, the number is 0, or
-/// a literal of the cube has the variable.
+/// The variable of the number that the user has named, if the cube may be split on it; None if the
+/// number is 0 or above the greatest variable of a clause, or a literal of the cube has the
+/// variable.
 fn named(formula: &Formula, cube: &[Lit], variable: u32) -> Option<Var>
     ensures some { IfSome result (λ v. SplitsOn formula.now cube.now (Some variable) v) }
     ensures none { IfNone result ((v : ℕ) → SplitsOn formula.now cube.now (Some variable) v → ⊥) }
@@ -53,8 +54,9 @@ fn chosen(alloc: Global, formula: &Formula, cube: &[Lit]) -> Result<Option<Var>,
     Ok(chooser.choose(formula, &preamble, cube))
 }
 
-/// The variable on which a cube is cut: the one of the number `on`, if a number is given, and else the one that the split rule chooses.
-/// None if the cube cannot be cut on it, or the rule chooses none.
+/// The variable on which a cube is split: the one that the user has named by the number `on`, if
+/// any, and else the one that the split rule chooses. None if the cube cannot be split on it, or
+/// the rule chooses none.
 fn variable(
     alloc: Global,
     formula: &Formula,
@@ -72,15 +74,15 @@ fn variable(
     }
 }
 
-/// The report of a leaf that cannot be cut: `c cannot split`, status 1.
+/// The report of a leaf that cannot be split: `c cannot split`, status 1.
 pub(crate) fn cannot_split(alloc: Global) -> Result<Report, AllocError>
     ensures { IfOk result (Prints 1 cannot_split_text) }
 {
     Report::of(alloc, b"c cannot split\n", 1)
 }
 
-/// Cuts the leaf at the index `place`, from 0, in two. The report has the deeper tree as iCNF text, status 0; or `c cannot split`, status
-/// 1.
+/// Splits the leaf at the index `place`, from 0, in two. The report has the deeper tree as iCNF
+/// text, status 0; or `c cannot split`, status 1.
 fn branches(
     alloc: Global,
     formula: &Formula,

@@ -30,6 +30,6 @@ pub use leaf::run_leaf;
 pub use leaf_lift::{Lift, LiftOutcome, lift_report};
 pub use leaf_search::{SearchOptions, run_refute};
 pub use leaf_split::run_split;
-pub use lookahead_split::{run_look, run_split_by_look};
+pub use lookahead_split::{run_look, run_look_within, run_split_by_look};
 pub use notes::{Note, put_missing, put_note};
 pub use split::{Split, SplitReader};

@@ -70,7 +70,7 @@ fn put_at(out: &mut Vec<u8>, words: &[u8], at: u64) -> Result<(), AllocError>
     put_number(out, at)
 }
 
-/// Appends a note in words.
+/// Appends what a note says of a file, in words.
 fn put_said(out: &mut Vec<u8>, note: Note) -> Result<(), AllocError>
     ensures { OnOk result (out.new.items ≡ out.old.items ++ said note) }
 {

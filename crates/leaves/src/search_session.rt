@@ -47,7 +47,7 @@ impl<P> Drop for SearchSession<'_, P> {
     }
 }
 
-/// Builds the negations of literals, in their order.
+/// Builds the negations of literals, in their order: the clause of a core.
 fn negated(alloc: Global, literals: &[Lit]) -> Result<Vec<Lit>, AllocError>
     ensures { IfOk result (λ others. others.items ≡ map negation literals.now) }
 {
@@ -67,13 +67,13 @@ fn put_lemma(
     hints: &[u64],
 ) -> Result<(), AllocError>
     requires number { IsClauseNumber id }
-    requires within { All (IsWithin 2000000) lits.now }
+    requires within { All (IsWithin 199999999) lits.now }
     requires hints { All IsClauseNumber hints.now }
     ensures { OnOk result (log.new ≡ log.old ++ line_of id (Add id lits.now hints.now [])) }
 {
     let groups = Groups::new(alloc);
     let mut line = Vec::new(alloc);
-    log.put(
+    log.put_within(
         StepRef::Add {
             id,
             lits,
@@ -119,7 +119,8 @@ impl<'a, P: Propagator> SearchSession<'a, P> {
         })
     }
 
-    /// Moves the lines of what the session has learnt and deleted since the last call to the end of the log.
+    /// Moves the lines of the lemmas and deletions since the last call from the session to the end
+    /// of the log.
     fn take_lines(&mut self, alloc: Global) -> Result<(), AllocError>
         requires { IsReady P.is_ready P.attached self.old.session }
         ensures ready { OnOk result (IsReady P.is_ready P.attached self.new.session) }
@@ -148,7 +149,8 @@ impl<'a, P: Propagator> SearchSession<'a, P> {
         Ok(answer)
     }
 
-    /// Closes a cube that has failed: the clause of the negations of the failure's core becomes a lemma, which is never deleted.
+    /// Closes a cube that has failed: gives the clause of the core's negations to the session, and
+    /// appends it to the log as a lemma. A given clause is never deleted, so the lemma stays live.
     fn close(&mut self, alloc: Global, failure: &Failure) -> Result<(), AllocError>
         requires ready { IsReady P.is_ready P.attached self.old.session }
         requires within { All (IsWithin (vars_of self.old.session)) failure.now.core.items }

@@ -2,9 +2,10 @@
 
 ghost use Rattle.std.specs.Prelude.{◌≡◌, ◌++◌, ℕ, List, [], IfOk};
 ghost use Rattle.dimacs.specs.logic.Cnf.{Cnf, AreWithin, greatest_in};
+ghost use Rattle.dimacs.specs.logic.Limits.{Limits};
 ghost use Rattle.leaves.specs.inner.SplitReader.{HasReadSomeText};
 
-use dimacs::Formula;
+use dimacs::{Formula, Limits};
 use icnf::{CubesFault, Tree, TreeReader};
 use std::alloc::{AllocError, Global};
 
@@ -54,19 +55,30 @@ impl Drop for SplitReader {
 }
 
 impl SplitReader {
-    ghost use Rattle.leaves.specs.SplitReader.{HasReadText, TellsSplit};
+    ghost use Rattle.leaves.specs.SplitReader.{HasReadText, HasReadTextWithin, TellsSplitWithin};
 
-    /// A reader that has read no byte. The formula's clauses are shared, not copied.
+    /// A reader that has read no byte of a text within the written limits. The formula's clauses are shared, not copied.
     pub fn new(alloc: Global, formula: Formula) -> Result<SplitReader, AllocError>
         ensures { IfOk result (HasReadText formula []) }
     {
-        let reader = TreeReader::new(alloc, &formula)?;
+        SplitReader::within(alloc, Limits::written(), formula)
+    }
+
+    /// A reader that has read no byte of a text within these limits. The formula's clauses are shared, not copied.
+    pub fn within(
+        alloc: Global,
+        limits: Limits,
+        formula: Formula,
+    ) -> Result<SplitReader, AllocError>
+        ensures { IfOk result (HasReadTextWithin limits formula []) }
+    {
+        let reader = TreeReader::within(alloc, limits, &formula)?;
         Ok(SplitReader { formula, reader })
     }
 
     /// Reads the next piece of the text. A fault is kept for `finish`.
     pub fn feed(&mut self, piece: &[u8])
-        ensures { (F : Cnf) (bytes : List ℕ) → HasReadText F bytes self.old → HasReadText F (bytes ++ piece.now) self.new }
+        ensures { (L : Limits) (F : Cnf) (bytes : List ℕ) → HasReadTextWithin L F bytes self.old → HasReadTextWithin L F (bytes ++ piece.now) self.new }
     {
         self.reader.feed(piece);
     }
@@ -74,7 +86,7 @@ impl SplitReader {
     /// Ends the text, and answers the formula with the tree that the text spells. Err has the first fault of the text; or, if it has none,
     /// that its clauses are not those of the formula.
     pub fn finish(self) -> Result<Split, CubesFault>
-        ensures { (F : Cnf) (bytes : List ℕ) → HasReadText F bytes self → TellsSplit F bytes result }
+        ensures { (L : Limits) (F : Cnf) (bytes : List ℕ) → HasReadTextWithin L F bytes self → TellsSplitWithin L F bytes result }
     {
         let SplitReader { formula, reader } = self;
         let tree = reader.finish()?;

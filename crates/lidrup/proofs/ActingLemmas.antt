@@ -1,5 +1,5 @@
 -- The result of a line, and what the code does.
-use Rattle.std.proofs.Common.{◌≡◌, ◌⊎◌, inl, inr, ℕ, ◌+◌, ◌-◌, ◌<◌, ◌≤◌, Bool, true, false, List, [], ◌∷◌, ◌++◌, Option, Some, None, Ok, Err, cond, refl, sym, ◌∙◌, ap, subst, length, take, eqb, arith, length-append}
+use Rattle.std.proofs.Common.{◌≡◌, ◌⊎◌, inl, inr, ℕ, ◌+◌, ◌-◌, ◌^◌, ◌<◌, ◌≤◌, Bool, true, false, List, [], ◌∷◌, ◌++◌, Option, Some, None, Ok, Err, cond, refl, sym, ◌∙◌, ap, subst, length, take, eqb, arith, length-append}
 use Rattle.std.specs.Prelude.{nat_lt, option_map}
 use Rattle.std.proofs.lemmas.Bool.{lt-leb, ne_eqb}
 use Rattle.std.proofs.lemmas.Bool.Decides.{nat_tests}
@@ -12,17 +12,17 @@ use Rattle.lrat_check.specs.Logs.{LogState, TakesLogLine, RefusesLogLine, after_
 use Rattle.lrat_check.specs.declared.line_checker.CheckFault.{CheckFault}
 use Rattle.lrat_check.proofs.Lines.{no_lf_from}
 use Rattle.lrat_check.proofs.Logs.{takes_line}
-use Rattle.lrat_text.specs.Grammar.{IsClauseNumber, IsStep}
+use Rattle.lrat_text.specs.Grammar.{IsClauseNumber, IsStepWithin}
 use Rattle.lrat_text.specs.Lines.{IsOpen}
 use Rattle.lrat_text.specs.Log.{after_step, top_after}
-use Rattle.lrat_text.specs.Parser.{step_in}
+use Rattle.lrat_text.specs.Parser.{step_within}
 use Rattle.lrat_text.specs.Runs.{text_of}
 use Rattle.lrat_text.specs.LineSink.{HandsOn}
 use Rattle.lrat_text.specs.WrittenLine.{line_of, line_text}
 use Rattle.lrat_text.specs.declared.step.Step.{Step}
 use Rattle.lrat_text.specs.declared.step.Step.TheVariants.{Add}
-use Rattle.lrat_text.proofs.LineLemmas.{written_spells, written_one_line}
-use Rattle.lrat_text.proofs.SpellingLemmas.{spelled_found}
+use Rattle.lrat_text.proofs.LineLemmas.{written_spells_within, written_one_line_within}
+use Rattle.lrat_text.proofs.SpellingLemmas.{spelled_found_within}
 use Rattle.lidrup.specs.Lidrup.{Names, LidrupState, LineResult, after, by_fault, empty_after, given, going_on, logged, naming, take_line, take_read}
 use Rattle.lidrup.specs.Lines.{Given, line_in}
 use Rattle.lidrup.specs.NameMaps.{number_or_0}
@@ -40,8 +40,8 @@ use Rattle.lidrup.proofs.StreamLemmas.{behind_none, hands_none}
 
 -- ---- a line of the log
 -- the line that is written spells its step
-pub step_back : (front : ℕ) (step : Step) → IsClauseNumber front → IsStep step → step_in (line_text front step) ≡ Ok step
-step_back front step numbered limits = spelled_found (line_text front step) step (written_spells front step numbered limits)
+pub step_back : (most : ℕ) → most < 2 ^ 48 → (front : ℕ) (step : Step) → IsClauseNumber front → IsStepWithin most step → step_within most (line_text front step) ≡ Ok step
+step_back most few front step numbered limits = spelled_found_within most (line_text front step) step few (written_spells_within most few front step numbered limits)
 
 -- without its LF
 pub line_cut : (line made now : List ℕ) (end : ℕ) → now ≡ made → made ≡ line ++ 10 ∷ [] → end ≡ length made - 1 → take end now ≡ line
@@ -50,20 +50,20 @@ line_cut line made now end same is at =
     ap (take end) (same ∙ is) ∙ take_at line (10 ∷ []) end (omega arith)
 
 -- one line is handed on
-hands_one : (front : ℕ) (step : Step) (old new : LogState) → IsClauseNumber front → IsStep step → TakesLogLine old (line_text front step) new → HandsOn TakesLogLine old (line_of front step) new []
+hands_one : (front : ℕ) (step : Step) (old new : LogState) → IsClauseNumber front → IsStepWithin old.most step → TakesLogLine old (line_text front step) new → HandsOn TakesLogLine old (line_of front step) new []
 hands_one front step old new numbered limits takes = record {
   lines = line_text front step ∷ [];
   whole = sym (append-nil (line_text front step ++ 10 ∷ []));
-  one_by_one = All-cons IsOpen (line_text front step) [] (no_lf_from (line_text front step) (written_one_line front step numbered limits)) (All-nil IsOpen);
+  one_by_one = All-cons IsOpen (line_text front step) [] (no_lf_from (line_text front step) (written_one_line_within old.most takes.few front step numbered limits)) (All-nil IsOpen);
   taken = (new, takes, refl);
 }
 
-pub checked_line : (front : ℕ) (step : Step) (old new : LogState) (made : List ℕ) → IsClauseNumber front → IsStep step → made ≡ line_of front step → TakesLogLine old (line_text front step) new
+pub checked_line : (front : ℕ) (step : Step) (old new : LogState) (made : List ℕ) → IsClauseNumber front → IsStepWithin old.most step → made ≡ line_of front step → TakesLogLine old (line_text front step) new
     → ChecksStep front old step new made
 checked_line front step old new made numbered limits is takes = at (log_step_fault old.base old.live old.top step) refl
   where
     read : by_log_fault old step (log_step_fault old.base old.live old.top step) ≡ Ok new
-    read = sym (ap (line_read old) (step_back front step numbered limits)) ∙ takes_line old new (line_text front step) takes
+    read = sym (ap (line_read old) (step_back old.most takes.few front step numbered limits)) ∙ takes_line old new (line_text front step) takes
 
     at : (o : Option ℕ) → log_step_fault old.base old.live old.top step ≡ o → ChecksStep front old step new made
     at (Some number) e = absurd (let no = sym (ap (by_log_fault old step) e) ∙ read in cc)
@@ -77,6 +77,7 @@ checked_line front step old new made numbered limits is takes = at (log_step_fau
           base = ap (λ (s : LogState). s.base) state;
           hands = hands_one front step old new numbered limits takes;
           made_is = is;
+          most = ap (λ (s : LogState). s.most) state;
         }
 
 -- a line of the log is refused
@@ -85,10 +86,10 @@ refused_step old step None fault e = absurd cc
 refused_step old step (Some number) fault e =
     let same : record { number = number; line = old.line; text = 0 } ≡ fault = cc in ap (λ (f : CheckFault). Some f.number) same
 
-pub refused_line : (front : ℕ) (step : Step) (old : LogState) (fault : CheckFault) → IsClauseNumber front → IsStep step → RefusesLogLine old (line_text front step) fault → RefusesStep old step (fault_of_log fault)
-refused_line front step old fault numbered limits (inl e) = inl (ap fault_of_log e)
-refused_line front step old fault numbered limits (inr e) =
-    at (eqb fault.number 14) (refused_step old step (log_step_fault old.base old.live old.top step) fault (sym (ap (line_read old) (step_back front step numbered limits)) ∙ e))
+pub refused_line : (front : ℕ) (step : Step) (old : LogState) (fault : CheckFault) → old.most < 2 ^ 48 → IsClauseNumber front → IsStepWithin old.most step → RefusesLogLine old (line_text front step) fault → RefusesStep old step (fault_of_log fault)
+refused_line front step old fault few numbered limits (inl e) = inl (ap fault_of_log e)
+refused_line front step old fault few numbered limits (inr e) =
+    at (eqb fault.number 14) (refused_step old step (log_step_fault old.base old.live old.top step) fault (sym (ap (line_read old) (step_back old.most few front step numbered limits)) ∙ e))
   where
     at : (b : Bool) → log_step_fault old.base old.live old.top step ≡ Some fault.number → RefusesStep old step (cond b NoMemory (OfLog fault.number))
     at true is = inl refl
@@ -137,6 +138,7 @@ logged_acts s step old new before now live top empty l names last given closing 
   base = l.base;
   hands = subst (λ (x : List ℕ). HandsOn TakesLogLine old.log.checker x new.log.checker []) (sym (append-nil (line_of old.log.checker.top step))) l.hands;
   out = l.out ∙ ap (λ (x : List ℕ). before ++ x) (sym (append-nil (line_of old.log.checker.top step)));
+  most = l.most;
 }
 
 -- nothing was logged
@@ -147,6 +149,7 @@ quiet_acts taken old new out is log = record {
   base = ap (λ (l : CheckedLog). l.checker.base) log;
   hands = subst (λ (l : CheckedLog). HandsOn TakesLogLine old.log.checker [] l.checker []) (sym log) (hands_none old.log.checker);
   out = sym (append-nil out);
+  most = ap (λ (l : CheckedLog). l.checker.most) log;
 }
 
 pub acts_as : (a b : LineResult) (old new : Translator) (before after : List ℕ) → b ≡ a → CarriesOut a old new before after → CarriesOut b old new before after
@@ -174,17 +177,18 @@ given_logged m s id C closing k above behind is =
     ∙ ap (λ b. cond b (Err (3, 0)) (Steps k.number)) (ne_eqb k.number 0 (λ e. absurd (omega arith)))
 
 -- ---- lines
-pub line_takes : (old new : CubeLines) (line : List ℕ) → old.known.log.empty ≡ 0 → CarriesOut (take_read old.known.log.checker.base (state_of old.known) (line_in line)) old.known new.known old.out.items new.out.items
+pub line_takes : (old new : CubeLines) (line : List ℕ) → old.known.log.empty ≡ 0 → CarriesOut (take_read old.known.log.checker.base (state_of old.known) (line_in old.known.log.checker.most line)) old.known new.known old.out.items new.out.items
     → new.line ≡ old.line + 1 → TakesLidrupLine old line new
 line_takes old new line empty a next = record {
   made = text_of old.known.log.checker.top a.steps;
   out = a.out;
   goes_on = λ later.
-      ap (λ n. cond (eqb n 0) (going_on old.line old.known.log.checker.top (take_read old.known.log.checker.base (state_of old.known) (line_in line)) later) (later (state_of old.known))) empty
+      ap (λ n. cond (eqb n 0) (going_on old.line old.known.log.checker.top (take_read old.known.log.checker.base (state_of old.known) (line_in old.known.log.checker.most line)) later) (later (state_of old.known))) empty
       ∙ ap (λ (t : LineResult). going_on old.line old.known.log.checker.top t later) a.is;
   hands = a.hands;
   base = a.base;
   next = next;
+  most = a.most;
 }
 
 -- a line after the empty lemma
@@ -193,12 +197,13 @@ line_passes old new line empty known out next = record {
   made = [];
   out = ap (λ o. o.items) out ∙ sym (append-nil old.out.items);
   goes_on = λ later.
-      ap (λ b. cond b (going_on old.line old.known.log.checker.top (take_read old.known.log.checker.base (state_of old.known) (line_in line)) later) (later (state_of old.known))) empty
+      ap (λ b. cond b (going_on old.line old.known.log.checker.top (take_read old.known.log.checker.base (state_of old.known) (line_in old.known.log.checker.most line)) later) (later (state_of old.known))) empty
       ∙ ap (λ (k : Translator). later (state_of k)) (sym known)
       ∙ sym (behind_none (later (state_of new.known)));
   hands = subst (λ (k : Translator). HandsOn TakesLogLine old.known.log.checker [] k.log.checker []) (sym known) (hands_none old.known.log.checker);
   base = ap (λ (k : Translator). k.log.checker.base) known;
   next = next;
+  most = ap (λ (k : Translator). k.log.checker.most) known;
 }
 
 -- a line that is refused
@@ -206,13 +211,13 @@ refusal : (f : LineFault) (line : ℕ) → (line_refusal f line ≡ no_memory) �
 refusal NoMemory line = inl refl
 refusal f line = inr refl
 
-pub line_stops : (old : CubeLines) (line : List ℕ) (f : LineFault) → old.known.log.empty ≡ 0 → FailsAs (take_read old.known.log.checker.base (state_of old.known) (line_in line)) f
+pub line_stops : (old : CubeLines) (line : List ℕ) (f : LineFault) → old.known.log.empty ≡ 0 → FailsAs (take_read old.known.log.checker.base (state_of old.known) (line_in old.known.log.checker.most line)) f
     → (line_refusal f old.line ≡ no_memory) ⊎ LineFails old line (line_refusal f old.line)
 line_stops old line f empty (inl e) = inl (ap (λ (g : LineFault). line_refusal g old.line) e)
 line_stops old line f empty (inr e) = elim (refusal f old.line) [
   | inl none ↦ inl none
   | inr same ↦ inr (λ later.
-      ap (λ n. cond (eqb n 0) (going_on old.line old.known.log.checker.top (take_read old.known.log.checker.base (state_of old.known) (line_in line)) later) (later (state_of old.known))) empty
+      ap (λ n. cond (eqb n 0) (going_on old.line old.known.log.checker.top (take_read old.known.log.checker.base (state_of old.known) (line_in old.known.log.checker.most line)) later) (later (state_of old.known))) empty
       ∙ ap (λ (t : LineResult). going_on old.line old.known.log.checker.top t later) e
       ∙ ap (λ (x : CheckFault). Err x) same)
 ]

@@ -10,8 +10,8 @@ use Rattle.dimacs.specs.logic.Cnf.{Cnf}
 use Rattle.dimacs.specs.logic.Literal.{Literal, Clause, negation}
 use Rattle.lrat_check.specs.Logs.{LogState}
 use Rattle.lrat_check.proofs.LogLines.{HasTakenLog, log_taken}
-use Rattle.lrat_text.specs.Grammar.{LineSpells}
-use Rattle.lrat_text.specs.Log.{Cube}
+use Rattle.lrat_text.specs.Grammar.{LineSpellsWithin}
+use Rattle.lrat_text.specs.Log.{Cube, log_top}
 use Rattle.lrat_text.specs.declared.step.Step.{Step}
 use Rattle.lidrup.specs.CubeLog.{ClosesCube, IsClosed, IsEnded, LeadsTo, HasLogged}
 use Rattle.lidrup.specs.Lidrup.{ClosesQuery, IsClosing, Negates, LidrupState, closing_of, lidrup_of}
@@ -27,7 +27,7 @@ closes_cube F q text s number l k =
     let h : HasTakenLog F text steps s [] = taken.1 in
     record {
       steps = steps;
-      spells = subst (λ (x : List ℕ). LineSpells x steps) (sym (h.whole ∙ append-nil h.front)) h.spelled;
+      spells = subst (λ (x : List ℕ). LineSpellsWithin (log_top F) x steps) (sym (h.whole ∙ append-nil h.front)) h.spelled;
       is_log = h.log;
       id = number;
       clause = k.clause;
@@ -65,23 +65,23 @@ closing_not m live number q C lives not k =
     not (subst (Negates q) same k.negates)
 
 -- what is told of a query is told of the text
-pub closes_text : (F : Cnf) (bytes written : List ℕ) (x : CubeLog) (query : ℕ) (q : Cube) (b : Bool) → IsEnded x → HasLogged F bytes written x → MatchBool b (IsClosed x query q) (¬ (IsClosed x query q))
+pub closes_text : (F : Cnf) (bytes handed : List ℕ) (x : CubeLog) (query : ℕ) (q : Cube) (b : Bool) → IsEnded x → HasLogged F bytes handed x → MatchBool b (IsClosed x query q) (¬ (IsClosed x query q))
     → MatchBool b (ClosesQuery F bytes query q) (¬ (ClosesQuery F bytes query q))
-closes_text F bytes written x query q b e s =
+closes_text F bytes handed x query q b e s =
     match_weaker b (IsClosed x query q) (¬ (IsClosed x query q)) (ClosesQuery F bytes query q) (¬ (ClosesQuery F bytes query q)) to (λ not k. not (back k))
   where
     state : LidrupState
     state = state_of x.lines.known
 
-    comes : lidrup_of F bytes ≡ Ok (written ++ x.lines.out.items, state)
-    comes = (ends_ok F bytes written x e.fine e.whole s).comes
+    comes : lidrup_of F bytes ≡ Ok (handed ++ x.lines.out.items, state)
+    comes = (ends_ok F bytes handed x e.fine e.whole s).comes
 
     base : x.lines.known.log.checker.base ≡ length F.clauses
-    base = stands_base F bytes written x e.fine s
+    base = stands_base F bytes handed x e.fine s
 
     to : IsClosed x query q → ClosesQuery F bytes query q
     to k = record {
-      log = written ++ x.lines.out.items;
+      log = handed ++ x.lines.out.items;
       state = state;
       comes = comes;
       closing = subst (λ (m : ℕ). IsClosing m state.live (closing_of state query) q) base k.closing;
@@ -89,7 +89,7 @@ closes_text F bytes written x query q b e s =
 
     back : ClosesQuery F bytes query q → IsClosed x query q
     back k =
-        let both : Ok (written ++ x.lines.out.items, state) ≡ Ok (k.log, k.state) = sym comes ∙ k.comes in
-        let pair : (written ++ x.lines.out.items, state) ≡ (k.log, k.state) = cc in
+        let both : Ok (handed ++ x.lines.out.items, state) ≡ Ok (k.log, k.state) = sym comes ∙ k.comes in
+        let pair : (handed ++ x.lines.out.items, state) ≡ (k.log, k.state) = cc in
         let same : k.state ≡ state = sym (ap (λ (p : List ℕ × LidrupState). p.1) pair) in
         record { fine = e.fine; closing = subst (λ (m : ℕ). IsClosing m state.live (closing_of state query) q) (sym base) (subst (λ (t : LidrupState). IsClosing (length F.clauses) t.live (closing_of t query) q) same k.closing) }

@@ -28,29 +28,31 @@ behind_append a b (Err fault) = refl
 
 -- ---- lines
 -- the text goes on after a line
-pub text-line : (m : ℕ) (s : LidrupState) (n : ℕ) (line rest : List ℕ) → All (λ b. is_lf b ≡ false) line
-    → lidrup_text m s n (line ++ 10 ∷ rest) ≡ lidrup_line m s n line (λ t. lidrup_text m t (n + 1) rest)
+pub text-line : (most m : ℕ) (s : LidrupState) (n : ℕ) (line rest : List ℕ) → All (λ b. is_lf b ≡ false) line
+    → lidrup_text most m s n (line ++ 10 ∷ rest) ≡ lidrup_line most m s n line (λ t. lidrup_text most m t (n + 1) rest)
 unfolding lidrup_text lidrup_pieces
-text-line m s n line rest none =
+text-line most m s n line rest none =
     let more : (piece : List ℕ) × (pieces : List (List ℕ)) × (slice_split is_lf rest ≡ piece ∷ pieces) = first_piece rest in
-    ap (by_pieces (lidrup_pieces m s n))
+    ap (by_pieces (lidrup_pieces most m s n))
     (slice_split_at is_lf line 10 rest none refl ∙ ap (λ ps. line ∷ ps) more.2)
-    ∙ ap (lidrup_line m s n line)
-    (fun_ext (λ t. sym (ap (by_pieces (lidrup_pieces m t (n + 1))) more.2)))
+    ∙ ap (lidrup_line most m s n line)
+    (fun_ext (λ t. sym (ap (by_pieces (lidrup_pieces most m t (n + 1))) more.2)))
 
 -- and ends if no line is left
-pub text-end : (m : ℕ) (s : LidrupState) (n : ℕ) (text : List ℕ) → All (λ b. is_lf b ≡ false) text → lidrup_text m s n text ≡ lidrup_end s n text
+pub text-end : (most m : ℕ) (s : LidrupState) (n : ℕ) (text : List ℕ) → All (λ b. is_lf b ≡ false) text → lidrup_text most m s n text ≡ lidrup_end s n text
 unfolding lidrup_text lidrup_pieces
-text-end m s n text none = ap (by_pieces (lidrup_pieces m s n)) (slice_split_none is_lf text none)
+text-end most m s n text none = ap (by_pieces (lidrup_pieces most m s n)) (slice_split_none is_lf text none)
 
 -- what the text that follows comes to
 abbrev pub text_in : CubeLines → List ℕ → LidrupResult
-text_in c text = lidrup_text c.known.log.checker.base (state_of c.known) c.line text
+text_in c text = lidrup_text c.known.log.checker.most c.known.log.checker.base (state_of c.known) c.line text
 
-moved : (c d : CubeLines) (text : List ℕ) → d.known.log.checker.base ≡ c.known.log.checker.base → d.line ≡ c.line + 1
-    → lidrup_text c.known.log.checker.base (state_of d.known) (c.line + 1) text ≡ text_in d text
-moved c d text base next =
-    ap (λ b. lidrup_text b (state_of d.known) (c.line + 1) text) (sym base) ∙ ap (λ n. lidrup_text d.known.log.checker.base (state_of d.known) n text) (sym next)
+moved : (c d : CubeLines) (text : List ℕ) → d.known.log.checker.most ≡ c.known.log.checker.most → d.known.log.checker.base ≡ c.known.log.checker.base → d.line ≡ c.line + 1
+    → lidrup_text c.known.log.checker.most c.known.log.checker.base (state_of d.known) (c.line + 1) text ≡ text_in d text
+moved c d text most base next =
+    ap (λ n. lidrup_text n c.known.log.checker.base (state_of d.known) (c.line + 1) text) (sym most)
+    ∙ ap (λ b. lidrup_text d.known.log.checker.most b (state_of d.known) (c.line + 1) text) (sym base)
+    ∙ ap (λ n. lidrup_text d.known.log.checker.most d.known.log.checker.base (state_of d.known) n text) (sym next)
 
 pub hands_none : (s : LogState) → HandsOn TakesLogLine s [] s []
 hands_none s = record { lines = []; whole = refl; one_by_one = All-nil IsOpen; taken = refl }
@@ -75,9 +77,9 @@ run_all (line ∷ lines) s t each (m, takes, later) =
       hands = hands_piece TakesLogLine s.known.log.checker takes.made m.known.log.checker [] rest.made t.known.log.checker [] takes.hands rest.hands;
       goes_on = λ more.
           ap (text_in s) (append_assoc line (10 ∷ ended_lines lines) more)
-          ∙ text-line s.known.log.checker.base (state_of s.known) s.line line (ended_lines lines ++ more) (All-head IsOpen line lines each)
-          ∙ takes.goes_on (λ u. lidrup_text s.known.log.checker.base u (s.line + 1) (ended_lines lines ++ more))
-          ∙ ap (prepend takes.made) (moved s m (ended_lines lines ++ more) takes.base takes.next ∙ rest.goes_on more)
+          ∙ text-line s.known.log.checker.most s.known.log.checker.base (state_of s.known) s.line line (ended_lines lines ++ more) (All-head IsOpen line lines each)
+          ∙ takes.goes_on (λ u. lidrup_text s.known.log.checker.most s.known.log.checker.base u (s.line + 1) (ended_lines lines ++ more))
+          ∙ ap (prepend takes.made) (moved s m (ended_lines lines ++ more) takes.most takes.base takes.next ∙ rest.goes_on more)
           ∙ sym (behind_append takes.made rest.made (text_in t more));
     }
 
@@ -99,8 +101,8 @@ refused_text : (s : CubeLines) (rest line later : List ℕ) (fault : CheckFault)
 refused_text s rest line later fault cut stops more =
     ap (λ (x : List ℕ). text_in s (x ++ more)) cut.0
     ∙ ap (text_in s) (append_assoc line (10 ∷ later) more)
-    ∙ text-line s.known.log.checker.base (state_of s.known) s.line line (later ++ more) cut.1
-    ∙ stops (λ t. lidrup_text s.known.log.checker.base t (s.line + 1) (later ++ more))
+    ∙ text-line s.known.log.checker.most s.known.log.checker.base (state_of s.known) s.line line (later ++ more) cut.1
+    ∙ stops (λ t. lidrup_text s.known.log.checker.most s.known.log.checker.base t (s.line + 1) (later ++ more))
 
 pub refused_leads : (begun : List ℕ) (s : CubeLines) (piece : List ℕ) (t : CubeLines) (fault : CheckFault) → LineRefused TakesLidrupLine RefusesLidrupLine s (begun ++ piece) t fault → LeadsToFault begun s piece fault
 refused_leads begun s piece t fault (m, rest, line, later, h, cut, refuses) = at refuses

@@ -9,7 +9,7 @@ use Rattle.lrat_check.specs.StepFaults.{is_empty_clause}
 use Rattle.lrat_check.specs.Logs.{log_step_fault}
 use Rattle.lrat_check.specs.declared.line_checker.CheckFault.{CheckFault}
 use Rattle.lrat_text.specs.Faults.{fault_number}
-use Rattle.lrat_text.specs.Log.{Cube, after_step, top_after}
+use Rattle.lrat_text.specs.Log.{Cube, after_step, log_top, top_after}
 use Rattle.lrat_text.specs.Runs.{text_of}
 use Rattle.lrat_text.specs.declared.step.Step.{Step}
 use Rattle.lrat_text.specs.declared.step.Step.TheVariants.{Add, Delete}
@@ -142,36 +142,38 @@ abbrev pub going_on : ℕ → ℕ → LineResult → (LidrupState → LidrupResu
 going_on line top (Err fault) later = refused fault.0 line fault.1
 going_on line top (Ok (steps, s)) later = prepend (text_of top steps) (later s)
 
--- the result from a line on; a line after the empty lemma is not read
-abbrev pub lidrup_line : ℕ → LidrupState → ℕ → List ℕ → (LidrupState → LidrupResult) → LidrupResult
-lidrup_line m s line text later = if s.empty == 0 then going_on line s.top (take_read m s (line_in text)) later else later s
+-- the result from a line on, with variables up to most, over a formula of m clauses; a line after the empty lemma is not read
+abbrev pub lidrup_line : ℕ → ℕ → LidrupState → ℕ → List ℕ → (LidrupState → LidrupResult) → LidrupResult
+lidrup_line most m s line text later = if s.empty == 0 then going_on line s.top (take_read m s (line_in most text)) later else later s
 
 -- the result at the end of a text: nothing may follow the last LF (else fault 1)
 abbrev pub lidrup_end : LidrupState → ℕ → List ℕ → LidrupResult
 lidrup_end s line [] = Ok ([], s)
 lidrup_end s line (b ∷ bs) = refused 1 line 2
 
--- the log of the pieces of a text between LFs; the first piece is the line of this number, and the last one is the text's end
-unfoldable pub lidrup_pieces : ℕ → LidrupState → ℕ → List ℕ → List (List ℕ) → LidrupResult
-lidrup_pieces m s line piece [] = lidrup_end s line piece
-lidrup_pieces m s line piece (next ∷ pieces) = lidrup_line m s line piece (λ t. lidrup_pieces m t (line + 1) next pieces)
+-- the log of the pieces of a text between LFs, with variables up to most; the first piece is the line of this number, and the last one is
+-- the text's end
+unfoldable pub lidrup_pieces : ℕ → ℕ → LidrupState → ℕ → List ℕ → List (List ℕ) → LidrupResult
+lidrup_pieces most m s line piece [] = lidrup_end s line piece
+lidrup_pieces most m s line piece (next ∷ pieces) = lidrup_line most m s line piece (λ t. lidrup_pieces most m t (line + 1) next pieces)
 
 -- the result of a function of the first piece and the later ones; a text has at least one piece, which is its end
 abbrev pub by_pieces : (List ℕ → List (List ℕ) → LidrupResult) → List (List ℕ) → LidrupResult
 by_pieces log [] = log [] []
 by_pieces log (piece ∷ pieces) = log piece pieces
 
--- the log of a text whose first line has this number
-unfoldable pub lidrup_text : ℕ → LidrupState → ℕ → List ℕ → LidrupResult
-lidrup_text m s line text = by_pieces (lidrup_pieces m s line) (lines text)
+-- the log of a text, with variables up to most, whose first line has this number
+unfoldable pub lidrup_text : ℕ → ℕ → LidrupState → ℕ → List ℕ → LidrupResult
+lidrup_text most m s line text = by_pieces (lidrup_pieces most m s line) (lines text)
 
 -- the state before the first line
 abbrev pub begun : Cnf → LidrupState
 begun F = record { names = λ n. None; last = 0; given = 0; closing = 0; closings = []; empty = 0; live = map_of F; top = length F.clauses }
 
--- the log over the formula that a text becomes, or the text's first fault
+-- the log over the formula that a text becomes, or the text's first fault; the text may have the variables that a log over the formula may
+-- have
 abbrev pub lidrup_of : Cnf → List ℕ → LidrupResult
-lidrup_of F text = lidrup_text (length F.clauses) (begun F) 1 text
+lidrup_of F text = lidrup_text (log_top F) (length F.clauses) (begun F) 1 text
 
 -- ---- cubes
 -- the number of the lemma that closes the cube of a query, counted from 0: the empty lemma, if there is one, closes each; 0 if there is

@@ -3,7 +3,7 @@ use Rattle.std.specs.Prelude.{ℕ, ◌==◌, ◌||◌, ◌&&◌, Bool, List, [],
 use Rattle.std.specs.Str.{byte}
 use Rattle.dimacs.specs.logic.Literal.{Clause}
 use Rattle.lrat_text.specs.Grammar.{space}
-use Rattle.lrat_text.specs.Parser.{step_in}
+use Rattle.lrat_text.specs.Parser.{step_within}
 use Rattle.lrat_text.specs.declared.fault.TextFault.{TextFault}
 use Rattle.lrat_text.specs.declared.fault.TextFault.TheVariants.{BadToken}
 use Rattle.lrat_text.specs.declared.step.Step.{Step}
@@ -89,13 +89,13 @@ abbrev pub by_step : StepKind → Result Step TextFault → ParsedLine
 by_step k (Ok s) = said k s
 by_step k (Err fault) = Err fault
 
--- the line of this kind, or its first fault
-abbrev pub read_as : Kind → List ℕ → ParsedLine
-read_as (kind.Step k) line = by_step k (step_in (lrat_line k line))
-read_as kind.Asked line = Ok Asked
-read_as kind.Silent line = Ok Silent
-read_as kind.Unknown line = Err BadToken
+-- the line of this kind, with variables up to most, or its first fault
+abbrev pub read_as : ℕ → Kind → List ℕ → ParsedLine
+read_as most (kind.Step k) line = by_step k (step_within most (lrat_line k line))
+read_as most kind.Asked line = Ok Asked
+read_as most kind.Silent line = Ok Silent
+read_as most kind.Unknown line = Err BadToken
 
--- the line that these bytes spell, or its first fault
-abbrev pub line_in : List ℕ → ParsedLine
-line_in line = read_as (kind_of (slice_index line 0)) line
+-- the line, with variables up to most, that these bytes spell, or its first fault
+abbrev pub line_in : ℕ → List ℕ → ParsedLine
+line_in most line = read_as most (kind_of (slice_index line 0)) line

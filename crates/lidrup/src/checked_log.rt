@@ -4,7 +4,7 @@ ghost use Rattle.std.specs.Prelude.{◌≡◌, ◌+◌, ◌<◌, [], All, OnOk, 
 ghost use Rattle.dimacs.specs.logic.Cnf.{Cnf};
 ghost use Rattle.dimacs.specs.logic.Literal.{IsWithin};
 ghost use Rattle.lrat_check.specs.Logs.{IsBegun, KeepsFormula, HoldsFormula};
-ghost use Rattle.lrat_text.specs.Grammar.{IsClauseNumber, IsStep};
+ghost use Rattle.lrat_text.specs.Grammar.{IsClauseNumber, IsStepWithin};
 ghost use Rattle.lrat_text.specs.Steps.{step_of};
 ghost use Rattle.lrat_text.specs.declared.step.Step.TheVariants as owned;
 ghost use Rattle.lidrup.specs.inner.LogSteps.{ChecksStep, RefusesStep, fault_of_log};
@@ -13,7 +13,7 @@ use crate::fault::LineFault;
 use crate::log_number::{LogNumber, number_after};
 use dimacs::{Formula, Lit};
 use lrat_check::{CheckFault, LogChecker};
-use lrat_text::{Groups, StepRef, put_ref};
+use lrat_text::{Groups, StepRef, put_ref_within};
 use std::alloc::{AllocError, Global};
 
 /// The fault of a deletion of a clause that is not live.
@@ -37,14 +37,15 @@ fn check(
     front: u64,
     made: &mut Vec<u8>,
 ) -> Result<(), LineFault>
-    requires limits { IsStep (step_of step) }
+    requires limits { IsStepWithin checker.old.most (step_of step) }
     requires numbered { IsClauseNumber front }
     ensures took { OnOk result (ChecksStep front checker.old (step_of step.entry) checker.new made.new.items) }
     ensures refused { IfErr result (RefusesStep checker.old (step_of step.entry)) }
     ensures stands { KeepsFormula checker.old checker.new }
 {
+    let _ = checker.most(); // its contract bounds the limit of the variables
     made.clear();
-    put_ref(step, front, made)?;
+    put_ref_within(step, front, made)?;
     let end = made.len().saturating_sub(1);
     match checker.take(&made[..end]) {
         Ok(()) => Ok(()),
@@ -86,7 +87,7 @@ impl CheckedLog {
         hints: &[u64],
         out: &mut Vec<u8>,
     ) -> Result<LogNumber, LineFault>
-        requires literals { All (IsWithin 2000000) lits.now }
+        requires literals { All (IsWithin self.old.checker.most) lits.now }
         requires hints { All IsClauseNumber hints.now }
         ensures number { IfOk result (λ n. n.number ≡ self.old.checker.top + 1) }
         ensures took { OnOk result (LogsStep self.old (owned.Add (self.old.checker.top + 1) lits.now hints.now []) self.new out.old.items out.new.items) }

@@ -2,7 +2,8 @@
 
 ghost use Rattle.std.specs.Prelude.{◌≡◌, ◌≤◌, ◌+◌, ◌^◌, MatchResult, OnErr, OnOk, IfErr, if◌then◌else◌};
 ghost use Rattle.lrat_check.specs.ProofFaults.{no_memory};
-ghost use Rattle.lrat_text.specs.Parser.{step_in};
+ghost use Rattle.lrat_text.specs.Grammar.{IsStepWithin};
+ghost use Rattle.lrat_text.specs.Parser.{GivesStep, step_within};
 ghost use Rattle.lidrup.specs.Lidrup.{take_read};
 ghost use Rattle.lidrup.specs.Lines.{by_step, line_in, lrat_line};
 ghost use Rattle.lidrup.specs.View.{state_of};
@@ -13,7 +14,7 @@ use crate::fault::{LineFault, refused};
 use crate::kind::{Kind, StepKind, kind_of_line, spell};
 use crate::translator::Translator;
 use lrat_check::CheckFault;
-use lrat_text::{StepBuffer, TakesLines, TextFault, read_line};
+use lrat_text::{StepBuffer, TakesLines, TextFault, read_line_within};
 
 /// Returns the fault of a line that cannot be parsed.
 fn not_read(fault: TextFault) -> LineFault
@@ -23,6 +24,15 @@ fn not_read(fault: TextFault) -> LineFault
         TextFault::NoMemory => LineFault::NoMemory,
         _ => LineFault::Text(fault),
     }
+}
+
+/// Reads a line of LRAT text, with the variables that a line of the log may have.
+fn read_step(known: &Translator, buffer: &mut StepBuffer, line: &[u8]) -> Result<(), TextFault>
+    ensures within { OnOk result (IsStepWithin known.now.log.checker.most buffer.new) }
+    ensures exact { GivesStep buffer.new result (step_within known.now.log.checker.most line.now) }
+{
+    let most = known.log.checker.most();
+    read_line_within(buffer, most, line)
 }
 
 /// Returns the number of the line after this one. If that does not fit in 64 bits, and only then, the answer is fault 14.
@@ -61,24 +71,27 @@ impl Drop for CubeLines {
 }
 
 impl CubeLines {
-    /// Takes a line of this kind, for which a line of LRAT text stands. `Err` if the line cannot be parsed or its step is refused.
+    /// Takes a line that gives, learns, closes or deletes: respells it as a line of LRAT text,
+    /// parses that, and lets the translator take the step. `Err` if the line cannot be parsed or
+    /// its step is refused.
     fn take_step(&mut self, kind: StepKind, line: &[u8]) -> Result<(), LineFault>
-        ensures took { OnOk result (CarriesOut (take_read self.old.known.log.checker.base (state_of self.old.known) (by_step kind (step_in (lrat_line kind line.now)))) self.old.known self.new.known self.old.out.items self.new.out.items) }
-        ensures refused { IfErr result (FailsAs (take_read self.old.known.log.checker.base (state_of self.old.known) (by_step kind (step_in (lrat_line kind line.now))))) }
+        ensures took { OnOk result (CarriesOut (take_read self.old.known.log.checker.base (state_of self.old.known) (by_step kind (step_within self.old.known.log.checker.most (lrat_line kind line.now)))) self.old.known self.new.known self.old.out.items self.new.out.items) }
+        ensures refused { IfErr result (FailsAs (take_read self.old.known.log.checker.base (state_of self.old.known) (by_step kind (step_within self.old.known.log.checker.most (lrat_line kind line.now))))) }
         ensures line { self.new.line ≡ self.old.line }
     {
         spell(kind, line, &mut self.spelled)?;
-        match read_line(&mut self.buffer, &self.spelled) {
+        match read_step(&self.known, &mut self.buffer, &self.spelled) {
             Ok(()) => {}
             Err(fault) => return Err(not_read(fault)),
         }
         self.known.take(kind, self.buffer.as_ref(), &mut self.out)
     }
 
-    /// Takes a line before the empty lemma, by its kind. `Err` if no line has its first letter, or the line is refused.
+    /// Takes a line before the empty lemma, by the kind that its first letter tells. `Err` if no
+    /// kind has this letter, or the line is refused.
     fn take(&mut self, line: &[u8]) -> Result<(), LineFault>
-        ensures took { OnOk result (CarriesOut (take_read self.old.known.log.checker.base (state_of self.old.known) (line_in line.now)) self.old.known self.new.known self.old.out.items self.new.out.items) }
-        ensures refused { IfErr result (FailsAs (take_read self.old.known.log.checker.base (state_of self.old.known) (line_in line.now))) }
+        ensures took { OnOk result (CarriesOut (take_read self.old.known.log.checker.base (state_of self.old.known) (line_in self.old.known.log.checker.most line.now)) self.old.known self.new.known self.old.out.items self.new.out.items) }
+        ensures refused { IfErr result (FailsAs (take_read self.old.known.log.checker.base (state_of self.old.known) (line_in self.old.known.log.checker.most line.now))) }
         ensures line { self.new.line ≡ self.old.line }
     {
         match kind_of_line(line) {
@@ -101,6 +114,8 @@ impl TakesLines for CubeLines {
 
     ghost refuses = { RefusesLidrupLine };
 
+    /// Takes the next line of the text and counts it. After the empty lemma, which closes every
+    /// cube, lines are counted alone.
     fn take_line(&mut self, line: &[u8]) -> Result<(), CheckFault> {
         let next = match next_line(self.line) {
             Ok(next) => next,

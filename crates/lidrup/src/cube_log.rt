@@ -83,9 +83,9 @@ impl CubeLog {
         &self.lines.out
     }
 
-    /// Drops the bytes of `written`, after they were handed out.
+    /// Drops the bytes that `written` lends, after the caller has stored them.
     pub fn forget(&mut self)
-        ensures stands { (F : Cnf) (bytes written : List ℕ) → HasLogged F bytes written self.old → HasLogged F bytes (written ++ self.old.lines.out.items) self.new }
+        ensures stands { (F : Cnf) (bytes handed : List ℕ) → HasLogged F bytes handed self.old → HasLogged F bytes (handed ++ self.old.lines.out.items) self.new }
         ensures out { self.new.lines.out.items ≡ [] }
     {
         self.lines.out.clear();
@@ -93,7 +93,7 @@ impl CubeLog {
 
     /// Returns what the text becomes if no further byte comes: `Ok` if the bytes written are its log; else the text's first fault.
     pub fn finish(&self) -> Result<(), CheckFault>
-        ensures ends { (F : Cnf) (bytes written : List ℕ) → HasLogged F bytes written self.now → EndsAs F bytes (written ++ self.now.lines.out.items) (state_of self.now.lines.known) result }
+        ensures ends { (F : Cnf) (bytes handed : List ℕ) → HasLogged F bytes handed self.now → EndsAs F bytes (handed ++ self.now.lines.out.items) (state_of self.now.lines.known) result }
         ensures ended { OnOk result (IsEnded self.now) }
     {
         if let Some(fault) = self.fault {
@@ -113,9 +113,9 @@ impl CubeLog {
     pub fn closes(&self, query: usize, cube: &[Lit]) -> bool
         ensures which { MatchBool result (IsClosed self.now query cube.now) (¬ (IsClosed self.now query cube.now)) }
         // after a whole text: exactly if the closing lemma of the text's definition closes the cube
-        ensures text { (F : Cnf) (bytes written : List ℕ) → IsEnded self.now → HasLogged F bytes written self.now → MatchBool result (ClosesQuery F bytes query cube.now) (¬ (ClosesQuery F bytes query cube.now)) }
+        ensures text { (F : Cnf) (bytes handed : List ℕ) → IsEnded self.now → HasLogged F bytes handed self.now → MatchBool result (ClosesQuery F bytes query cube.now) (¬ (ClosesQuery F bytes query cube.now)) }
         // if the answer is true, a lemma of the log closes the cube
-        ensures closes { OnTrue result ((F : Cnf) (bytes written : List ℕ) → HasLogged F bytes written self.now → ClosesCube F cube.now (written ++ self.now.lines.out.items)) }
+        ensures closes { OnTrue result ((F : Cnf) (bytes handed : List ℕ) → HasLogged F bytes handed self.now → ClosesCube F cube.now (handed ++ self.now.lines.out.items)) }
     {
         if self.fault.is_some() {
             return false;

@@ -30,7 +30,8 @@ pub(crate) enum Kind {
     Unknown,
 }
 
-/// Tells whether lines with this first letter have no effect.
+/// Tells whether lines with this first letter have no effect on the log: statuses, models, weakened
+/// and restored clauses, comments and the like.
 fn is_silent(letter: u8) -> bool
     ensures { result ≡ silent letter }
 {
@@ -85,7 +86,8 @@ fn body(line: &[u8]) -> &[u8]
     &line[2..]
 }
 
-/// Leaves in `spelled` the line of LRAT text that stands for a line of this kind.
+/// Leaves in `spelled` the line of LRAT text that stands for this line, so that one parser reads
+/// both formats: with a number in front or a 0 at the end, if LRAT has that in addition.
 pub(crate) fn spell(kind: StepKind, line: &[u8], spelled: &mut Vec<u8>) -> Result<(), AllocError>
     ensures { OnOk result (spelled.new.items ≡ lrat_line kind line.now) }
 {

@@ -19,9 +19,10 @@ pub(crate) struct Names {
     ghost whole: { vec_len maps ≡ 8192 },
 }
 
-/// Returns the index of a foreign number's map: the remainder by 8,192.
+/// Returns the index of the map that holds a foreign number: its remainder by 8,192. Many small
+/// maps are searched faster than one of all clauses.
 #[inline(always)]
-fn place(number: u64) -> usize
+fn map_index(number: u64) -> usize
     ensures is { result ≡ number % 8192 }
     ensures below { result < 8192 }
 {
@@ -30,7 +31,7 @@ fn place(number: u64) -> usize
 
 /// Returns the log's number for a foreign number, looked up in that number's map; `None` if the number names no clause.
 #[inline(always)]
-fn find(map: &BTreeMap<u64, LogNumber>, number: u64) -> Option<LogNumber>
+fn find_in_map(map: &BTreeMap<u64, LogNumber>, number: u64) -> Option<LogNumber>
     ensures { number_in result ≡ name_in_map (Some map.now) number }
 {
     match map.get(&number) {
@@ -40,7 +41,11 @@ fn find(map: &BTreeMap<u64, LogNumber>, number: u64) -> Option<LogNumber>
 }
 
 /// Sets the log's number of a foreign number in that number's map. Memory is refused only if the foreign number is new.
-fn insert(map: &mut BTreeMap<u64, LogNumber>, number: u64, own: LogNumber) -> Result<(), AllocError>
+fn insert_in_map(
+    map: &mut BTreeMap<u64, LogNumber>,
+    number: u64,
+    own: LogNumber,
+) -> Result<(), AllocError>
     ensures named { OnOk result (name_in_map (Some map.new) ≡ with_name (name_in_map (Some map.old)) number (Some own.number)) }
     ensures only { OnErr result (name_in_map (Some map.old) number ≡ None) }
 {
@@ -49,7 +54,7 @@ fn insert(map: &mut BTreeMap<u64, LogNumber>, number: u64, own: LogNumber) -> Re
 }
 
 /// Removes a foreign number from that number's map.
-fn take(map: &mut BTreeMap<u64, LogNumber>, number: u64)
+fn remove_from_map(map: &mut BTreeMap<u64, LogNumber>, number: u64)
     ensures { name_in_map (Some map.new) ≡ with_name (name_in_map (Some map.old)) number None }
 {
     map.remove(&number);
@@ -74,7 +79,7 @@ impl Names {
     pub(crate) fn get(&self, number: u64) -> Option<LogNumber>
         ensures { number_in result ≡ names_of self.now number }
     {
-        find(&self.maps[place(number)], number)
+        find_in_map(&self.maps[map_index(number)], number)
     }
 
     /// Names a clause of the log by a foreign number. Memory is refused only if the foreign number named none.
@@ -82,13 +87,13 @@ impl Names {
         ensures named { OnOk result (names_of self.new ≡ with_name (names_of self.old) number (Some own.number)) }
         ensures only { OnErr result (names_of self.old number ≡ None) }
     {
-        insert(&mut self.maps[place(number)], number, own)
+        insert_in_map(&mut self.maps[map_index(number)], number, own)
     }
 
     /// Removes a foreign number, which then names no clause.
     pub(crate) fn remove(&mut self, number: u64)
         ensures { names_of self.new ≡ with_name (names_of self.old) number None }
     {
-        take(&mut self.maps[place(number)], number);
+        remove_from_map(&mut self.maps[map_index(number)], number);
     }
 }

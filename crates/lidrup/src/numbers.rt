@@ -9,7 +9,8 @@ use crate::log_number::LogNumber;
 use crate::names::Names;
 use std::alloc::AllocError;
 
-/// Appends a number of the log. Memory is refused only if the vector was full.
+/// Appends a number of the log. Memory is refused only if the vector was full, as the contract
+/// tells callers.
 pub(crate) fn put(number: LogNumber, numbers: &mut Vec<u64>) -> Result<(), AllocError>
     requires { All IsClauseNumber numbers.old.items }
     ensures put { OnOk result (numbers.new.items ≡ numbers.old.items ++ number.number ∷ []) }
@@ -39,7 +40,9 @@ pub(crate) fn translate(
     Ok(true)
 }
 
-/// Removes the foreign numbers `ids`. Leaves in `numbers` the log's numbers of those of their clauses that are lemmas: above `clauses`.
+/// Removes the foreign numbers `ids`, which a line deletes. Leaves in `numbers` the log's numbers
+/// to delete: those of lemmas, which are above `clauses`, since the log keeps the formula's
+/// clauses.
 pub(crate) fn forget(
     names: &mut Names,
     clauses: u64,

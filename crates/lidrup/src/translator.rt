@@ -3,7 +3,7 @@
 ghost use Rattle.std.specs.Prelude.{◌≡◌, ◌+◌, ℕ, List, [], All, IfOk, IfErr, OnOk, map};
 ghost use Rattle.dimacs.specs.logic.Literal.{IsWithin, negation};
 ghost use Rattle.lrat_check.specs.Logs.{IsBegun};
-ghost use Rattle.lrat_text.specs.Grammar.{IsClauseNumber, IsStep};
+ghost use Rattle.lrat_text.specs.Grammar.{IsClauseNumber, IsStepWithin};
 ghost use Rattle.lrat_text.specs.Steps.{step_of};
 ghost use Rattle.lrat_text.specs.declared.step.Step.TheVariants as owned;
 ghost use Rattle.lidrup.specs.Lidrup.{begun, closing_of as closing_in, logged, naming, take_line, take_read};
@@ -100,9 +100,10 @@ impl Translator {
         0
     }
 
-    /// Adds a lemma, whose hints are in `numbers`, to the log, and names it by the foreign number `id`.
+    /// Adds a lemma to the log, with the hints that are in `numbers`, and names it by the foreign
+    /// number `id`.
     fn add(&mut self, id: u64, lits: &[Lit], out: &mut Vec<u8>) -> Result<(), LineFault>
-        requires literals { All (IsWithin 2000000) lits.now }
+        requires literals { All (IsWithin self.old.log.checker.most) lits.now }
         requires hints { All IsClauseNumber self.old.numbers.items }
         ensures took { OnOk result (CarriesOut (logged self.old.log.checker.base (naming (state_of self.old) id (self.old.log.checker.top + 1)) (owned.Add (self.old.log.checker.top + 1) lits.now self.old.numbers.items [])) self.old self.new out.old.items out.new.items) }
         ensures refused { IfErr result (FailsAs (logged self.old.log.checker.base (naming (state_of self.old) id (self.old.log.checker.top + 1)) (owned.Add (self.old.log.checker.top + 1) lits.now self.old.numbers.items []))) }
@@ -115,8 +116,8 @@ impl Translator {
 
     /// Takes a given clause: the next one of the formula; or after these the negation of a cube, which follows from the lemma that closed a
     /// cube last. `Err` if the number is not rising, or no lemma closed a cube.
-    fn give(&mut self, id: u64, lits: &[Lit], out: &mut Vec<u8>) -> Result<(), LineFault>
-        requires { All (IsWithin 2000000) lits.now }
+    fn take_given(&mut self, id: u64, lits: &[Lit], out: &mut Vec<u8>) -> Result<(), LineFault>
+        requires { All (IsWithin self.old.log.checker.most) lits.now }
         ensures took { OnOk result (CarriesOut (take_line self.old.log.checker.base (state_of self.old) (Given id lits.now)) self.old self.new out.old.items out.new.items) }
         ensures refused { IfErr result (FailsAs (take_line self.old.log.checker.base (state_of self.old) (Given id lits.now))) }
     {
@@ -149,7 +150,7 @@ impl Translator {
         hints: &[u64],
         out: &mut Vec<u8>,
     ) -> Result<(), LineFault>
-        requires { All (IsWithin 2000000) lits.now }
+        requires { All (IsWithin self.old.log.checker.most) lits.now }
         ensures took { OnOk result (CarriesOut (take_line self.old.log.checker.base (state_of self.old) (Learnt id lits.now hints.now)) self.old self.new out.old.items out.new.items) }
         ensures refused { IfErr result (FailsAs (take_line self.old.log.checker.base (state_of self.old) (Learnt id lits.now hints.now))) }
     {
@@ -165,7 +166,7 @@ impl Translator {
     /// Adds the lemma that closes the cube of the last query: the negations of `lits`, literals of that cube. `Err` if there was no query,
     /// or a hint names no clause.
     fn close(&mut self, lits: &[Lit], hints: &[u64], out: &mut Vec<u8>) -> Result<(), LineFault>
-        requires { All (IsWithin 2000000) lits.now }
+        requires { All (IsWithin self.old.log.checker.most) lits.now }
         ensures took { OnOk result (CarriesOut (take_line self.old.log.checker.base (state_of self.old) (Closed lits.now hints.now)) self.old self.new out.old.items out.new.items) }
         ensures refused { IfErr result (FailsAs (take_line self.old.log.checker.base (state_of self.old) (Closed lits.now hints.now))) }
     {
@@ -196,7 +197,8 @@ impl Translator {
         self.log.delete(&self.numbers, out)
     }
 
-    /// Takes a query of a cube, whose cube no lemma closes yet.
+    /// Takes a line that asks a query: its cube has the number of the queries before it, and no
+    /// lemma closes it yet.
     pub(crate) fn ask(&mut self) -> Result<(), LineFault>
         ensures took { OnOk result ((out : List ℕ) → CarriesOut (take_line self.old.log.checker.base (state_of self.old) Asked) self.old self.new out out) }
         ensures refused { IfErr result (λ f. f ≡ LineFault.NoMemory) }
@@ -205,15 +207,15 @@ impl Translator {
         Ok(())
     }
 
-    /// Takes a line of this kind, by the step that the line of LRAT text spells that stands for it. `Err` if the line has a part that its
-    /// kind does not have, or if it is refused.
+    /// Takes a line of this kind, by the step of the LRAT line that stands for it. `Err` if the
+    /// step has a part that lines of its kind do not have (hints or groups), or if it is refused.
     pub(crate) fn take(
         &mut self,
         kind: StepKind,
         step: StepRef<'_>,
         out: &mut Vec<u8>,
     ) -> Result<(), LineFault>
-        requires { IsStep (step_of step) }
+        requires { IsStepWithin self.old.log.checker.most (step_of step) }
         ensures took { OnOk result (CarriesOut (take_read self.old.log.checker.base (state_of self.old) (said kind (step_of step.entry))) self.old self.new out.old.items out.new.items) }
         ensures refused { IfErr result (FailsAs (take_read self.old.log.checker.base (state_of self.old) (said kind (step_of step.entry)))) }
     {
@@ -232,7 +234,7 @@ impl Translator {
                         if !hints.is_empty() {
                             return Err(BAD);
                         }
-                        self.give(id, lits, out)
+                        self.take_given(id, lits, out)
                     }
                     StepKind::Learnt => self.learn(id, lits, hints, out),
                     StepKind::Closed => self.close(lits, hints, out),

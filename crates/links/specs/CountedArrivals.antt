@@ -1,24 +1,24 @@
--- What `CountedArrivals` has counted.
+-- The counts of `CountedArrivals`.
 use Rattle.std.specs.Prelude.{ℕ, Bool, slice_index}
 use Rattle.links.specs.declared.counted_arrivals.CountedArrivals.{CountedArrivals}
 
--- the event carrier
+-- the event carrier of the links
 abbrev pub event_carrier_of : {S : Type 0} → CountedArrivals S → S
 event_carrier_of links = links.carrier
 
--- how many calls there were
+-- the number of receives and sends
 abbrev pub arrival_calls_of : {S : Type 0} → CountedArrivals S → ℕ
 arrival_calls_of links = links.calls
 
--- how many events came, except `Over`
+-- the number of events that came, except `Over`
 abbrev pub arrivals_of : {S : Type 0} → CountedArrivals S → ℕ
 arrivals_of links = links.arrivals
 
--- how many links began at a place
+-- the number of links that began at a place
 abbrev pub links_at : {S : Type 0} → CountedArrivals S → ℕ → ℕ
 links_at links place = slice_index links.links place
 
--- how many sends to a place were refused
+-- the number of sends to a place that were refused
 abbrev pub refusals_at : {S : Type 0} → CountedArrivals S → ℕ → ℕ
 refusals_at links place = slice_index links.refusals place
 

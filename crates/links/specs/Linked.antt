@@ -1,4 +1,4 @@
--- Which links each carrier has, and which workers are linked.
+-- The links of each carrier, and the workers that are linked.
 use Rattle.std.specs.Prelude.{ℕ, zero, suc, ◌≤◌, Bool, true, false, not, List, length, map, get_or, is_some}
 use Rattle.links.specs.declared.worker_end.WorkerEnd.{WorkerEnd}
 use Rattle.links.specs.declared.loopback.Loopback.{Loopback}
@@ -6,11 +6,11 @@ use Rattle.links.specs.declared.memory.Memory.{Memory}
 use Rattle.links.specs.declared.memory.Wire.{Wire}
 use Rattle.links.specs.declared.coordinator_ends.CoordinatorEnds.{CoordinatorEnds}
 
--- for each worker, from number 1 on, whether it is linked
+-- for each worker, from number 1 on, whether it is linked at the coordinator's ends
 abbrev pub linked_of : {S : Type 0} → CoordinatorEnds S → List Bool
 linked_of served = map (λ e. is_some e) served.ends.items
 
--- the number of one of `count` workers: 1 to `count`
+-- a number's property: it is that of one of `count` workers, 1 to `count`
 abbrev pub IsOneOf : ℕ → ℕ → Type 0
 IsOneOf count worker = (1 ≤ worker) × (worker ≤ count)
 
@@ -23,7 +23,7 @@ is_missing linked (suc place) = not (get_or linked place true)
 abbrev pub stream_of : {S : Type 0} → WorkerEnd S → S
 stream_of joined = joined.stream
 
--- how many links there are
+-- the number of links over sockets of this process
 abbrev pub pair_count : {S : Type 0} → Loopback S → ℕ
 pair_count loopback = length loopback.pairs.items
 

@@ -5,15 +5,15 @@ ghost use Rattle.std.specs.Prelude.{◌≤◌, length, IfOk};
 use crate::link::{End, LinkFault};
 use crate::progress::Progress;
 
-/// Carries bytes, and counts nothing.
+/// Carries bytes over links that are there from the beginning, one a worker, and counts nothing.
 pub trait Carrier {
-    /// Carries bytes from one end to the other.
+    /// Carries bytes from this end to the other end of its link.
     fn carry(&mut self, from: End, bytes: &[u8]) -> Result<(), LinkFault>;
 
-    /// Puts bytes that came to an end at the front of the room, and answers how many; 0 means that the link has ended.
+    /// Puts bytes that came to an end at the front of the room. Returns how many; 0 means that the link has ended.
     fn fetch(&mut self, at: End, room: &mut [u8]) -> Result<usize, LinkFault>
         ensures { IfOk result (λ n. n ≤ length room.new) };
 
-    /// Is called with the progress of the run. Most carriers show it to nobody.
+    /// Shows the progress of a run. Most carriers show it to nobody.
     fn show(&mut self, _progress: &Progress) {}
 }

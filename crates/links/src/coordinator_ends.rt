@@ -10,23 +10,25 @@ use crate::stream::{read_next, write_whole};
 use std::alloc::{AllocError, Global};
 use std::io::{Read, Write};
 
-/// A worker's connection, and what was read from it before the worker was linked.
+/// A worker's connection, and the bytes that were read from it before the worker was linked.
 #[derive(Drop)]
 struct Linked<S> {
     stream: S,
+    /// The bytes that were read before the worker was linked.
     early: Vec<u8>,
-    /// How many of the early bytes were handed in.
+    /// The number of the early bytes that were handed in.
     handed: usize,
 }
 
-/// The coordinator's ends of the links of workers 1 to n. The workers' ends are in other processes: their calls are refused. While a worker
-/// is not linked, a receive from it answers 0 bytes, and a send to it is refused.
+/// The coordinator's ends of the links of workers 1 to n. The workers' ends are in other processes: their calls are refused. If a worker is
+/// not linked, a receive from it returns 0 bytes, and a send to it is refused.
 #[derive(Drop)]
 pub struct CoordinatorEnds<S> {
+    /// By worker, from number 1 on: the connection; None if the worker is not linked.
     ends: Vec<Option<Linked<S>>>,
 }
 
-/// Copies as many bytes as fit into the room, and answers how many.
+/// Copies as many bytes as fit to the front of the room of a receive. Returns how many.
 fn hand_in(bytes: &[u8], room: &mut [u8]) -> usize
     ensures { result ≤ length room.new }
 {
@@ -35,13 +37,14 @@ fn hand_in(bytes: &[u8], room: &mut [u8]) -> usize
     count
 }
 
+/// Whether every worker is linked.
 fn are_linked<S>(ends: &[Option<Linked<S>>]) -> bool
     ensures { result ≡ list_all (λ e. is_some e) ends.now }
 {
     ends.iter().all(|end| end.is_some())
 }
 
-/// The place of a worker among `count` workers: its number less 1.
+/// The index of a worker among `count` workers, its number less 1; None if there is no worker of this number.
 fn place_of(worker: u32, count: usize) -> Option<usize>
     ensures place { IfSome result (λ place. (place < count) × (worker ≡ place + 1)) }
     ensures some { IsSome result ↔ IsOneOf count worker }
@@ -52,7 +55,8 @@ fn place_of(worker: u32, count: usize) -> Option<usize>
 }
 
 impl<S: Read> Linked<S> {
-    /// Hands in the early bytes first, then what is read.
+    /// Reads from a worker's connection: first the early bytes, which were read with its handshake,
+    /// and then what comes. Returns how many bytes; 0 means that the link has ended.
     fn fetch(&mut self, room: &mut [u8]) -> Result<usize, LinkFault>
         ensures { IfOk result (λ n. n ≤ length room.new) }
     {
@@ -66,7 +70,7 @@ impl<S: Read> Linked<S> {
 }
 
 impl<S> CoordinatorEnds<S> {
-    /// Workers 1 to `workers`, none of them linked. An error is want of memory.
+    /// The ends of workers 1 to `workers`, none of them linked. It is an error if memory is refused.
     pub fn new(alloc: Global, workers: u32) -> Result<CoordinatorEnds<S>, AllocError>
     where
         S: Drop,
@@ -79,6 +83,7 @@ impl<S> CoordinatorEnds<S> {
         Ok(CoordinatorEnds { ends })
     }
 
+    /// The slot of a coordinator's end. It is an error if the end is a worker's or there is no worker of this number.
     fn end(&mut self, end: End) -> Result<&mut Option<Linked<S>>, LinkFault> {
         let End::Coordinator(worker) = end else {
             return Err(LinkFault);
@@ -87,7 +92,7 @@ impl<S> CoordinatorEnds<S> {
         self.ends.get_mut(place as usize).ok_or(LinkFault)
     }
 
-    /// Whether this is the number of a worker that is not linked yet.
+    /// Whether there is a worker of this number that is not linked yet.
     pub fn lacks(&self, worker: u32) -> bool
         ensures { result ≡ is_missing (linked_of self.now) worker }
     {
@@ -104,8 +109,8 @@ impl<S> CoordinatorEnds<S> {
         are_linked(&self.ends)
     }
 
-    /// Links a worker by its connection, from which these bytes were read already. If the worker is linked, this connection replaces its
-    /// old one. If there is no worker of this number, the call is refused and nothing changes.
+    /// Links a worker by its connection, from which the `early` bytes were read already. If the worker is linked, this connection replaces
+    /// its old one. It is an error if there is no worker of this number; then nothing changes.
     pub fn link(&mut self, worker: u32, stream: S, early: Vec<u8>) -> Result<(), LinkFault>
     where
         S: Drop,
@@ -126,6 +131,8 @@ impl<S> CoordinatorEnds<S> {
 }
 
 impl<S: Read + Write> Carrier for CoordinatorEnds<S> {
+    /// Writes all bytes to the connection of the end's worker. It is an error if the worker is not
+    /// linked.
     fn carry(&mut self, from: End, bytes: &[u8]) -> Result<(), LinkFault> {
         match self.end(from)? {
             Some(linked) => write_whole(&mut linked.stream, bytes),
@@ -133,6 +140,8 @@ impl<S: Read + Write> Carrier for CoordinatorEnds<S> {
         }
     }
 
+    /// Reads from the connection of the end's worker; 0 bytes, the end, if the worker is not
+    /// linked.
     fn fetch(&mut self, at: End, room: &mut [u8]) -> Result<usize, LinkFault> {
         match self.end(at)? {
             Some(linked) => linked.fetch(room),

@@ -1,4 +1,4 @@
-//! Links over any carrier, with the counts.
+//! Links over any carrier, with the counts of calls and refusals.
 
 ghost use Rattle.std.specs.Prelude.{◌≡◌, ◌≢◌, ◌≤◌, ◌<◌, ℕ, length, slice_index};
 ghost use Rattle.links.specs.Counts.{one_more, one_more_if_err};
@@ -9,25 +9,28 @@ use crate::carrier::Carrier;
 use crate::link::{End, LinkFault, Links};
 use crate::progress::Progress;
 
-/// How many links have a count of their own: those of workers 0 to 64.
+/// The number of links that have a count of their own: those of workers 0 to 64.
 const LINKS: usize = 65;
 
-/// How often a carrier was called, how often it refused, and how often at each link.
+/// The counts of a carrier: calls, refused calls, and refused calls by link.
 #[derive(Drop)]
 struct Tally {
+    /// The number of sends and receives.
     calls: u64,
+    /// The number of them that were refused.
     refusals: u64,
+    /// By worker, the number that were refused at its link.
     refused: [u64; LINKS],
 }
 
-/// Links over a carrier, with the counts that it does not keep.
+/// Links over a carrier, with the counts, which the carrier does not keep.
 #[derive(Drop)]
 pub struct Counted<C> {
     carrier: C,
     tally: Tally,
 }
 
-/// Counts one more, up to the greatest number.
+/// Adds 1 to a counter; it stays at 2^64 - 1.
 pub(crate) fn count(n: &mut u64)
     ensures { n.new ≡ one_more n.old }
 {
@@ -36,7 +39,7 @@ pub(crate) fn count(n: &mut u64)
     }
 }
 
-/// The worker whose link an end is of.
+/// The number of the worker whose link has this end.
 fn worker_of(end: End) -> u32
     ensures { result ≡ link_of end }
 {
@@ -45,7 +48,7 @@ fn worker_of(end: End) -> u32
     }
 }
 
-/// Counts one more at a place, if there is such a place.
+/// Adds 1 to the counter at an index; nothing changes if there is none.
 fn count_at(counts: &mut [u64], place: usize)
     ensures here { place < length counts.old → slice_index counts.new place ≡ one_more (slice_index counts.old place) }
     ensures elsewhere { (p : ℕ) → p ≢ place → slice_index counts.new p ≡ slice_index counts.old p }
@@ -56,7 +59,7 @@ fn count_at(counts: &mut [u64], place: usize)
 }
 
 impl Tally {
-    /// Counts a call at an end, by its answer.
+    /// Counts a call at an end, and a refusal if its answer is an error. Returns the answer.
     fn note<T>(&mut self, end: End, answer: Result<T, LinkFault>) -> Result<T, LinkFault>
         ensures answer { result ≡ answer }
         ensures calls { self.new.calls ≡ one_more self.old.calls }
@@ -74,7 +77,7 @@ impl Tally {
 }
 
 impl<C> Counted<C> {
-    /// Links over this carrier, which were not called yet.
+    /// Links over this carrier, with all counts 0.
     pub fn new(carrier: C) -> Counted<C>
         ensures carrier { carrier_of result ≡ carrier }
         ensures calls { calls_of result ≡ 0 }
@@ -91,7 +94,7 @@ impl<C> Counted<C> {
         }
     }
 
-    /// The carrier.
+    /// The carrier of the links.
     pub fn carrier(&self) -> &C
         ensures { result.now ≡ carrier_of self.now }
     {
@@ -106,24 +109,29 @@ impl<C: Carrier> Links for Counted<C> {
 
     ghost refused_at = { refused_of };
 
+    /// Has the carrier carry the bytes, and counts the call.
     fn send(&mut self, from: End, bytes: &[u8]) -> Result<(), LinkFault> {
         let answer = self.carrier.carry(from, bytes);
         self.tally.note(from, answer)
     }
 
+    /// Has the carrier fetch bytes, and counts the call.
     fn receive(&mut self, at: End, room: &mut [u8]) -> Result<usize, LinkFault> {
         let answer = self.carrier.fetch(at, room);
         self.tally.note(at, answer)
     }
 
+    /// Has the carrier show the progress.
     fn show(&mut self, progress: &Progress) {
         self.carrier.show(progress);
     }
 
+    /// The number of sends and receives so far.
     fn calls(&self) -> u64 {
         self.tally.calls
     }
 
+    /// The number of refused sends and receives so far.
     fn refusals(&self) -> u64 {
         self.tally.refusals
     }

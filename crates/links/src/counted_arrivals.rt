@@ -1,4 +1,4 @@
-//! Arrivals over any event carrier, with the counts.
+//! Arrivals over any event carrier, with the counts of calls, events, links and refusals.
 
 ghost use Rattle.std.specs.Prelude.{◌≡◌, ◌≢◌, ◌≤◌, ◌<◌, ◌+◌, ◌^◌, ℕ, false, length, replicate, slice_index, if◌then◌else◌};
 ghost use Rattle.links.specs.Counts.{one_more, one_more_if_err};
@@ -11,22 +11,27 @@ use crate::event_carrier::EventCarrier;
 use crate::link::LinkFault;
 use crate::progress::Progress;
 
-/// How many places there are.
+/// The number of places.
 const PLACES: usize = 256;
 
-/// Links over an event carrier, with the counts that it does not keep.
+/// Links that come and go over an event carrier, with the counts, which the carrier does not keep.
 #[derive(Drop)]
 pub struct CountedArrivals<S> {
     carrier: S,
+    /// The number of receives and sends.
     calls: u64,
+    /// The number of events, except `Over`.
     arrivals: u64,
+    /// By place, the number of links that began there.
     links: [u64; PLACES],
+    /// By place, the number of sends that were refused there.
     refusals: [u64; PLACES],
-    /// Whether nothing will come any more.
+    /// Whether the last event was `Over`: nothing will come any more.
     is_over: bool,
 }
 
-/// Counts one more at a place, up to the greatest number, if the call answered `Err`.
+/// Counts a refused send at its place, if the answer is an error; the counter stays at 2^64 - 1.
+/// Returns the answer.
 fn note(counts: &mut [u64], place: u8, answer: Result<(), LinkFault>) -> Result<(), LinkFault>
     requires { 256 ≤ length counts.old }
     ensures answer { result ≡ answer }
@@ -39,7 +44,7 @@ fn note(counts: &mut [u64], place: u8, answer: Result<(), LinkFault>) -> Result<
     answer
 }
 
-/// Whether nothing comes after this event.
+/// Whether an event is `Over`: nothing comes after it.
 fn is_over(event: Event) -> bool
     ensures { result ≡ is_over event }
 {
@@ -49,7 +54,7 @@ fn is_over(event: Event) -> bool
     }
 }
 
-/// Counts a link that begins. Answers `false`, and counts nothing, if the counter is at the greatest number.
+/// Counts a link that begins at a place. Returns false, and counts nothing, if the counter is at 2^64 - 1.
 fn count_link(counts: &mut [u64], place: u8) -> bool
     requires { 256 ≤ length counts.old }
     ensures { (p : ℕ) → slice_index counts.new p ≡ slice_index counts.old p + (if result then begun_at (Event.Linked place) p else 0) }
@@ -63,7 +68,7 @@ fn count_link(counts: &mut [u64], place: u8) -> bool
 }
 
 impl<S> CountedArrivals<S> {
-    /// Links over this carrier, over which nothing came yet.
+    /// Links over this carrier, with all counts 0.
     pub fn new(carrier: S) -> CountedArrivals<S>
         ensures carrier { event_carrier_of result ≡ carrier }
         ensures calls { arrival_calls_of result ≡ 0 }
@@ -82,7 +87,7 @@ impl<S> CountedArrivals<S> {
         }
     }
 
-    /// The carrier.
+    /// The carrier of the links.
     pub fn carrier(&self) -> &S
         ensures { result.now ≡ event_carrier_of self.now }
     {
@@ -91,8 +96,8 @@ impl<S> CountedArrivals<S> {
 }
 
 impl<S: EventCarrier> CountedArrivals<S> {
-    /// Counts an event, and answers it. If the count of events is full, the answer is `Over`; if that of the place's links is full, the new
-    /// link is dropped, and the answer is `Quiet`.
+    /// Counts an event, and returns it. It returns `Over` if the count of events is full. If the count of the place's links is full, it
+    /// drops the new link and returns `Quiet`.
     fn note_event(&mut self, event: Event) -> Event
         ensures within { (room : ℕ) → IsWithin event room → IsWithin result room }
         ensures calls { arrival_calls_of self.new ≡ arrival_calls_of self.old }
@@ -125,6 +130,7 @@ impl<S: EventCarrier> Arrivals for CountedArrivals<S> {
 
     ghost has_ended = { is_at_end };
 
+    /// Has the carrier wait for the next event, and counts the call and the event.
     fn receive_any(&mut self, room: &mut [u8]) -> Arrival {
         count(&mut self.calls);
         let arrival = self.carrier.await_any(room);
@@ -136,16 +142,19 @@ impl<S: EventCarrier> Arrivals for CountedArrivals<S> {
         }
     }
 
+    /// Has the carrier carry the bytes, and counts the call and its refusal.
     fn send_to(&mut self, place: u8, bytes: &[u8]) -> Result<(), LinkFault> {
         count(&mut self.calls);
         let answer = self.carrier.carry_to(place, bytes);
         note(&mut self.refusals, place, answer)
     }
 
+    /// Has the carrier drop the link; this is not counted.
     fn hang_up(&mut self, place: u8) {
         self.carrier.drop_at(place);
     }
 
+    /// Has the carrier show the progress.
     fn show(&mut self, progress: &Progress) {
         self.carrier.show(progress);
     }

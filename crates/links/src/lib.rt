@@ -1,6 +1,6 @@
 //! Links: what carries bytes between a coordinator and its workers.
 //!
-//! What a layer above may rest on: each send and each receive is counted, and so is each that was refused; a receive answers no more bytes
+//! What a layer above may rest on: each send and each receive is counted, and so is each that was refused; a receive returns no more bytes
 //! than the room that it was lent. Nothing is promised of the bytes: links may lose them, repeat them, or make them up. [`Links`] are there
 //! from the beginning, one a worker; [`Counted`] makes them of any [`Carrier`]: sockets of this machine, queues in memory, or one that
 //! refuses, ends or lies. [`Arrivals`] are links that come and go, and are handled event by event; [`CountedArrivals`] makes them of any

@@ -16,28 +16,31 @@ pub enum End {
     Worker(u32),
 }
 
-/// A send or a receive was refused.
+/// The fault of a send or a receive that was refused.
 #[derive(Clone, Copy, Debug, PartialEq, Eq, Error)]
 #[error("the link refused")]
 pub struct LinkFault;
 
-/// Links that carry bytes between a coordinator and its workers, and count calls and refusals; refusals also by worker, up to number 64.
-/// The counts stay at 2^64 - 1.
+/// Links that carry bytes between a coordinator and its workers. Calls (sends and receives) and refused calls are counted, up to 2^64 - 1;
+/// refused calls also by worker, from number 0 to 64.
 pub trait Links {
+    /// The number of sends and receives.
     ghost call_count: { Self → ℕ };
 
+    /// The number of them that were refused.
     ghost refusal_count: { Self → ℕ };
 
+    /// For each worker up to number 64, the number that were refused at its link.
     ghost refused_at: { Self → ℕ → ℕ };
 
-    /// Sends bytes from one end to the other.
+    /// Sends bytes from this end to the other end of its link. It is an error if the link refuses them.
     fn send(&mut self, from: End, bytes: &[u8]) -> Result<(), LinkFault>
         ensures calls { call_count self.new ≡ one_more (call_count self.old) }
         ensures refusals { refusal_count self.new ≡ one_more_if_err result (refusal_count self.old) }
         ensures here { link_of from ≤ 64 → refused_at self.new (link_of from) ≡ one_more_if_err result (refused_at self.old (link_of from)) }
         ensures elsewhere { (worker : ℕ) → worker ≢ link_of from → refused_at self.new worker ≡ refused_at self.old worker };
 
-    /// Puts bytes that came to an end at the front of the room, and answers how many; 0 means that the link has ended.
+    /// Puts bytes that came to an end at the front of the room. Returns how many; 0 means that the link has ended.
     fn receive(&mut self, at: End, room: &mut [u8]) -> Result<usize, LinkFault>
         ensures bound { IfOk result (λ n. n ≤ length room.new) }
         ensures calls { call_count self.new ≡ one_more (call_count self.old) }
@@ -45,17 +48,17 @@ pub trait Links {
         ensures here { link_of at ≤ 64 → refused_at self.new (link_of at) ≡ one_more_if_err result (refused_at self.old (link_of at)) }
         ensures elsewhere { (worker : ℕ) → worker ≢ link_of at → refused_at self.new worker ≡ refused_at self.old worker };
 
-    /// Is called with the progress of the run, after each turn of a link.
+    /// Shows the progress of a run; it is called after each turn of a link.
     fn show(&mut self, progress: &Progress)
         ensures calls { call_count self.new ≡ call_count self.old }
         ensures refusals { refusal_count self.new ≡ refusal_count self.old }
         ensures refused { refused_at self.new ≡ refused_at self.old };
 
-    /// How many sends and receives there were.
+    /// The number of sends and receives.
     fn calls(&self) -> u64
         ensures { result ≡ call_count self.now };
 
-    /// How many of them were refused.
+    /// The number of sends and receives that were refused.
     fn refusals(&self) -> u64
         ensures { result ≡ refusal_count self.now };
 }

@@ -11,7 +11,7 @@ use std::io;
 use std::io::{Read, Write};
 use std::net::{Ipv4Addr, Net, OpenListener, OpenStream, SocketAddr, TcpListener};
 
-/// The two ends of one link.
+/// The two ends of one worker's link.
 #[derive(Drop)]
 struct Pair<S> {
     coordinator: S,
@@ -24,10 +24,10 @@ pub struct Loopback<S> {
     pairs: Vec<Pair<S>>,
 }
 
-/// How many connections are accepted at most until the worker's own comes.
+/// The greatest number of connections that are accepted until the worker's own comes.
 const TRIES: u32 = 128;
 
-/// Accepts a connection, and keeps it, with `TCP_NODELAY`, if it comes from this address.
+/// Accepts a connection. Returns it, with `TCP_NODELAY`, if it comes from the address `own`; else drops it and returns None.
 fn accept_own<R: Net>(listener: &R::Listener, own: SocketAddr) -> io::Result<Option<R::Stream>> {
     let (stream, from) = listener.accept()?;
     if from != own {
@@ -37,7 +37,8 @@ fn accept_own<R: Net>(listener: &R::Listener, own: SocketAddr) -> io::Result<Opt
     Ok(Some(stream))
 }
 
-/// Accepts the worker's own connection. Connections of other processes are dropped.
+/// Accepts connections until the worker's own comes, from the address `own`. Those of other processes are dropped; after `TRIES` of them it
+/// is an error.
 fn await_own<R: Net>(listener: &R::Listener, own: SocketAddr) -> io::Result<R::Stream> {
     for _ in 0..TRIES {
         if let Some(stream) = accept_own::<R>(listener, own)? {
@@ -47,7 +48,7 @@ fn await_own<R: Net>(listener: &R::Listener, own: SocketAddr) -> io::Result<R::S
     Err(io::Error::from(io::ErrorKind::ConnectionRefused))
 }
 
-/// Connects a worker to the listener.
+/// Connects a worker to the listener at the address `at`, and accepts its connection.
 fn connect_pair<R: Net>(
     net: &R,
     listener: &R::Listener,
@@ -63,8 +64,8 @@ fn connect_pair<R: Net>(
 }
 
 impl<S> Loopback<S> {
-    /// Opens a listener at a free port of 127.0.0.1, and connects workers 1 to `workers` to it. Whether it can, and what the connections
-    /// carry, the operating system decides. An error is that of the listener or of a connection.
+    /// Opens a listener at a free port of 127.0.0.1, and connects workers 1 to `workers` to it. The operating system decides whether it
+    /// can, and what the connections carry. An error is that of the listener or of a connection, or memory was refused.
     pub fn open<R: Net<Stream = S>>(net: &R, alloc: Global, workers: u32) -> io::Result<Loopback<S>>
     where
         S: Drop,
@@ -79,6 +80,7 @@ impl<S> Loopback<S> {
         Ok(Loopback { pairs })
     }
 
+    /// The socket of an end of a link; None if there is no worker of its number.
     fn end(&mut self, end: End) -> Option<&mut S> {
         let (End::Coordinator(w) | End::Worker(w)) = end;
         let place = w.checked_sub(1)?;
@@ -91,11 +93,13 @@ impl<S> Loopback<S> {
 }
 
 impl<S: Read + Write> Carrier for Loopback<S> {
+    /// Writes all bytes to the socket of this end.
     fn carry(&mut self, from: End, bytes: &[u8]) -> Result<(), LinkFault> {
         let stream = self.end(from).ok_or(LinkFault)?;
         write_whole(stream, bytes)
     }
 
+    /// Reads what has come to the socket of this end, and waits if nothing has.
     fn fetch(&mut self, at: End, room: &mut [u8]) -> Result<usize, LinkFault> {
         let stream = self.end(at).ok_or(LinkFault)?;
         read_next(stream, room)

@@ -1,4 +1,4 @@
-//! Links in memory.
+//! Links in memory: queues of bytes.
 
 ghost use Rattle.std.specs.Prelude.{◌≡◌, ◌≤◌, [], length, replicate, IfOk};
 ghost use Rattle.links.specs.Linked.{under_way};
@@ -8,10 +8,10 @@ use crate::link::{End, LinkFault};
 use std::alloc::{AllocError, Global};
 use std::collections::VecDeque;
 
-/// The bytes of the longest frame.
+/// The length of the longest frame in bytes.
 const LONGEST: usize = 4037;
 
-/// The bytes that are under way over one worker's link.
+/// The bytes that are under way over one worker's link, as two queues.
 #[derive(Drop)]
 struct Wire {
     /// To the worker.
@@ -20,18 +20,19 @@ struct Wire {
     up: VecDeque<u8>,
 }
 
-/// The links of workers 1 to n, as queues in memory. A call at the link of another worker is refused. A receive from an empty queue answers
+/// The links of workers 1 to n, as queues in memory. A call at the link of another worker is refused. A receive from an empty queue returns
 /// 0 bytes: such a link has ended.
 ///
-/// Room for one frame each way is taken when the links are made. A run has at most one frame under way, so it is never refused for want of
-/// memory.
+/// Room for one frame each way is taken when the links are made. A run has at most one frame under way, so no send of a
+/// run is refused because memory is.
 #[derive(Drop)]
 pub struct Memory {
+    /// By worker, from number 1 on.
     wires: Vec<Wire>,
 }
 
 impl Memory {
-    /// The links of workers 1 to `workers`, with empty queues. An error is want of memory.
+    /// The links of workers 1 to `workers`, with empty queues. It is an error if memory is refused.
     pub fn new(alloc: Global, workers: u32) -> Result<Memory, AllocError>
         ensures { IfOk result (λ m. under_way m ≡ replicate workers ([], [])) }
     {
@@ -45,13 +46,15 @@ impl Memory {
         Ok(Memory { wires })
     }
 
+    /// The queues of a worker's link; None if there is no worker of this number.
     fn wire(&mut self, worker: u32) -> Option<&mut Wire> {
         let place = worker.checked_sub(1)?;
         self.wires.get_mut(place as usize)
     }
 }
 
-/// Takes bytes from the front of a queue into the room, and answers how many.
+/// Moves bytes from the front of a queue to the front of the room of a receive, as many as fit.
+/// Returns how many.
 fn drain(queue: &mut VecDeque<u8>, room: &mut [u8]) -> usize
     ensures { result ≤ length room.new }
 {
@@ -69,6 +72,8 @@ fn drain(queue: &mut VecDeque<u8>, room: &mut [u8]) -> usize
 }
 
 impl Carrier for Memory {
+    /// Appends the bytes to the queue that leads away from this end: down to the worker, or up to
+    /// the coordinator.
     fn carry(&mut self, from: End, bytes: &[u8]) -> Result<(), LinkFault> {
         let queue = match from {
             End::Coordinator(w) => &mut self.wire(w).ok_or(LinkFault)?.down,
@@ -81,6 +86,8 @@ impl Carrier for Memory {
         Ok(())
     }
 
+    /// Takes bytes from the queue that leads to this end. It does not wait: an empty queue answers
+    /// 0 bytes.
     fn fetch(&mut self, at: End, room: &mut [u8]) -> Result<usize, LinkFault> {
         let queue = match at {
             End::Coordinator(w) => &mut self.wire(w).ok_or(LinkFault)?.up,

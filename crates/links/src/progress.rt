@@ -5,18 +5,19 @@ ghost use Rattle.std.specs.Prelude.{◌≡◌, ◌-◌};
 /// The progress of a run, in leaves of its tree.
 #[derive(Clone, Copy, Debug, PartialEq, Eq)]
 pub struct Progress {
-    /// How many leaves are closed.
+    /// The number of leaves that are closed.
     pub closed: usize,
-    /// How many leaves a worker has.
+    /// The number of leaves that a worker has.
     pub given: usize,
-    /// How many leaves wait for a worker.
+    /// The number of leaves that wait for a worker.
     pub waiting: usize,
-    /// How many leaves were cut in two.
+    /// The number of leaves that were cut in two.
     pub split: usize,
 }
 
 impl Progress {
-    /// The progress of a tree that began with `planted` leaves and has `leaves` now: `closed` of them are closed, `given` have a worker.
+    /// The progress of a tree that began with `planted` leaves and has `leaves` now, of which `closed` are closed and `given` have a
+    /// worker.
     pub fn of(planted: usize, leaves: usize, closed: usize, given: usize) -> Progress
         ensures closed { result.closed ≡ closed }
         ensures given { result.given ≡ given }

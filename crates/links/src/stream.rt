@@ -7,14 +7,14 @@ use std::io;
 use std::io::{ErrorKind, Read, Write};
 use std::net::{Net, OpenStream, SocketAddr, TcpStream};
 
-/// Connects to an address, with `TCP_NODELAY`: a small packet does not wait for the next.
+/// Connects to an address, with `TCP_NODELAY`: a small packet does not wait for the next. An error is that of the connection.
 pub(crate) fn connect<R: Net>(net: &R, at: SocketAddr) -> io::Result<R::Stream> {
     let stream = TcpStream::connect(net, at)?;
     stream.set_nodelay(true)?;
     Ok(stream)
 }
 
-/// Reads what comes next; 0 bytes mean the end. A read that a signal interrupted is tried again.
+/// Reads what comes next into the room. Returns how many bytes; 0 bytes mean the end. A read that a signal interrupted is tried again.
 pub(crate) fn read_next<S: Read>(stream: &mut S, room: &mut [u8]) -> Result<usize, LinkFault>
     ensures { IfOk result (λ n. n ≤ length room.new) }
 {
@@ -28,7 +28,7 @@ pub(crate) fn read_next<S: Read>(stream: &mut S, room: &mut [u8]) -> Result<usiz
     Err(LinkFault)
 }
 
-/// Writes all bytes; `write_all` tries again by itself.
+/// Writes all bytes; `write_all` tries again by itself. Any other error of the stream is a refusal.
 pub(crate) fn write_whole<S: Write>(stream: &mut S, bytes: &[u8]) -> Result<(), LinkFault> {
     stream.write_all(bytes).map_err(|_| LinkFault)
 }

@@ -1,4 +1,4 @@
-//! A worker's end of its link, over TCP on the loopback device.
+//! The worker's end of its link, over TCP on the loopback device.
 
 ghost use Rattle.std.specs.Prelude.{◌≡◌};
 ghost use Rattle.links.specs.Linked.{stream_of};
@@ -10,7 +10,7 @@ use std::io;
 use std::io::{Read, Write};
 use std::net::{Ipv4Addr, Net, OpenStream, SocketAddr};
 
-/// The worker's end, over a stream. The coordinator's end is in another process: its calls are refused.
+/// The worker's end of its link, over a stream. The coordinator's end is in another process: its calls are refused.
 #[derive(Drop)]
 pub struct WorkerEnd<S> {
     stream: S,
@@ -24,7 +24,7 @@ impl<S> WorkerEnd<S> {
         WorkerEnd { stream }
     }
 
-    /// Connects to a port of 127.0.0.1, with `TCP_NODELAY`. Whether it is connected, and to whom, the operating system decides: nothing is
+    /// Connects to a port of 127.0.0.1, with `TCP_NODELAY`. The operating system decides whether it is connected, and to whom: nothing is
     /// promised of either. An error is that of the connection.
     pub fn connect<R: Net<Stream = S>>(net: &R, port: u16) -> io::Result<WorkerEnd<S>>
     where
@@ -36,6 +36,7 @@ impl<S> WorkerEnd<S> {
 }
 
 impl<S: Read + Write> Carrier for WorkerEnd<S> {
+    /// Writes all bytes to the stream; the coordinator's end is not here, and refuses.
     fn carry(&mut self, from: End, bytes: &[u8]) -> Result<(), LinkFault> {
         match from {
             End::Worker(_) => write_whole(&mut self.stream, bytes),
@@ -43,6 +44,7 @@ impl<S: Read + Write> Carrier for WorkerEnd<S> {
         }
     }
 
+    /// Reads what has come from the coordinator, and waits if nothing has.
     fn fetch(&mut self, at: End, room: &mut [u8]) -> Result<usize, LinkFault> {
         match at {
             End::Worker(_) => read_next(&mut self.stream, room),

@@ -34,7 +34,7 @@ pub record IsBranch (before : List Step) (path : Cube) (t : ℕ) (M : ClauseMap)
   pub lives : get (after_steps M p.steps) p.id ≡ Some p.clause
   pub negates : Negating path p.clause
   pub added : Adds p.clause before ⊎ Adds p.clause p.steps
-  pub small : AreSmall before → AreSmall p.steps
+  pub small : (most : ℕ) → AreSmall most before → AreSmall most p.steps
 
 added_left : (before : List Step) (C : Clause) (xs ys : List Step) → Adds C before ⊎ Adds C xs → Adds C before ⊎ Adds C (xs ++ ys)
 added_left before C xs ys (inl a) = inl a
@@ -44,13 +44,13 @@ added_right : (before : List Step) (C : Clause) (xs ys : List Step) → Adds C b
 added_right before C xs ys (inl a) = inl a
 added_right before C xs ys (inr a) = inr (adds_right C xs ys a)
 
-all_small : (before steps : List Step) (C : Clause) → AreSmall before → AreSmall steps → Adds C before ⊎ Adds C steps → All (IsWithin 2000000) C
-all_small before steps C h g (inl a) = h a.0 C a.1 a.2 a.3
-all_small before steps C h g (inr a) = g a.0 C a.1 a.2 a.3
+all_small : (most : ℕ) (before steps : List Step) (C : Clause) → AreSmall most before → AreSmall most steps → Adds C before ⊎ Adds C steps → All (IsWithin most) C
+all_small most before steps C h g (inl a) = h a.0 C a.1 a.2 a.3
+all_small most before steps C h g (inr a) = g a.0 C a.1 a.2 a.3
 
-line_small : (id : ℕ) (C : Clause) (hints : List ℕ) (groups : List Group) → All (IsWithin 2000000) C → AreSmall (Add id C hints groups ∷ [])
-line_small id C hints groups h n lits xs gs inside = elim (Contains-cons_cases (Add id C hints groups) (Add n lits xs gs) [] inside) [
-  | inl e ↦ let same_clause : C ≡ lits = cc in subst (All (IsWithin 2000000)) same_clause h
+line_small : (most id : ℕ) (C : Clause) (hints : List ℕ) (groups : List Group) → All (IsWithin most) C → AreSmall most (Add id C hints groups ∷ [])
+line_small most id C hints groups h n lits xs gs inside = elim (Contains-cons_cases (Add id C hints groups) (Add n lits xs gs) [] inside) [
+  | inl e ↦ let same_clause : C ≡ lits = cc in subst (All (IsWithin most)) same_clause h
   | inr z ↦ absurd (Contains-nil (Add n lits xs gs) z)
 ]
 
@@ -87,7 +87,7 @@ module _ (before : List Step) (path : Cube) (x : Literal) (t : ℕ) (M : ClauseM
     lives = both_left;
     negates = negates_shorter path x left.clause first.negates f;
     added = added_left before left.clause left.steps right.steps first.added;
-    small = λ b. small_append left.steps right.steps (first.small b) (second.small b);
+    small = λ most b. small_append most left.steps right.steps (first.small most b) (second.small most b);
   }
 
   with_right : has right.clause x ≡ false → IsBranch before path t M (with_clause_of right left right)
@@ -98,7 +98,7 @@ module _ (before : List Step) (path : Cube) (x : Literal) (t : ℕ) (M : ClauseM
     lives = both_right;
     negates = negates_shorter path (negation x) right.clause second.negates (ap (has right.clause) (negation-negation x) ∙ f);
     added = added_right before right.clause left.steps right.steps second.added;
-    small = λ b. small_append left.steps right.steps (first.small b) (second.small b);
+    small = λ most b. small_append most left.steps right.steps (first.small most b) (second.small most b);
   }
 
   with_own_line : has left.clause (negation x) ≡ true → IsBranch before path t M (with_line (resolvent path left.clause right.clause) left right)
@@ -123,8 +123,8 @@ module _ (before : List Step) (path : Cube) (x : Literal) (t : ℕ) (M : ClauseM
         lives = ap (λ (ss : List Step). get (after_steps M ss) (right.top + 1)) whole ∙ last_live M t [] lines (right.top + 1) C hints [];
         negates = resolvent_negates path left.clause right.clause;
         added = inr (right.top + 1, hints, [], subst (λ (ss : List Step). Contains ss step) (sym whole) (Contains-append_right lines (step ∷ []) step (Contains-head step [])));
-        small = λ b. subst AreSmall (sym whole) (small_append lines (step ∷ []) (small_append left.steps right.steps (first.small b) (second.small b)) (line_small (right.top + 1) C hints []
-            (resolvent_small path left.clause right.clause (all_small before left.steps left.clause b (first.small b) first.added) (all_small before right.steps right.clause b (second.small b) second.added))));
+        small = λ most b. subst (AreSmall most) (sym whole) (small_append most lines (step ∷ []) (small_append most left.steps right.steps (first.small most b) (second.small most b)) (line_small most (right.top + 1) C hints []
+            (resolvent_small most path left.clause right.clause (all_small most before left.steps left.clause b (first.small most b) first.added) (all_small most before right.steps right.clause b (second.small most b) second.added))));
       }
 
   pub fork_is_branch : IsBranch before path t M (fork_part path x left right)
@@ -154,7 +154,7 @@ module _ (before : List Step) (m s : ℕ) (L : ClauseMap) (between : AreBetween 
         lives = keeps id C h.lives;
         negates = closes_negates path C h.ends;
         added = inl (added id C h.lives (let o = h.own in omega arith));
-        small = λ b id lits hints groups inside. absurd (Contains-nil (Add id lits hints groups) inside);
+        small = λ most b id lits hints groups inside. absurd (Contains-nil (Add id lits hints groups) inside);
       }
   forks_are path t M (fork x left right) up keeps none (free, a, c) all =
       let p : Part = forks (path ++ x ∷ []) t left in

@@ -19,7 +19,7 @@ use Rattle.log_join.specs.ClosedLeaves.{Numbered, Leaf, is_closed, closed_by, ca
 use Rattle.log_join.specs.JoinedLogs.{Handed, Ended, leaf, fork, ends, AreFree, forks, lemmas_of, left_by, JoinState, nothing, with_log, joined_so_far, IsJoinOf, AreLogs, ClosesLeaf, IsClosedBy}
 use Rattle.log_join.proofs.SettleLemmas.{IsClosedIn, all_stay_closed, one_closes, from_map, from_settled}
 use Rattle.log_join.proofs.LiveLemmas.{live_has, live_only, IsLive}
-use Rattle.log_join.proofs.PlacedLemmas.{log_top, log_between}
+use Rattle.log_join.proofs.PlacedLemmas.{counted_top, log_between}
 
 -- ---- a closed leaf is closed by one of the logs
 module _ (M : ClauseMap) where
@@ -76,7 +76,7 @@ has_lemma : (F : Cnf) (t : ℕ) (log : List Step) (q : Cube) → IsLog F log →
 has_lemma F t log q is_log c =
     let m : ℕ = length F.clauses in
     let up : c.id ≤ top_of m log = (log_between m (map_of F) m log is_log (between_formula F) c.id c.clause c.lives).1 in
-    let top : top_of m log ≡ m + additions log = log_top m (map_of F) m log is_log in
+    let top : top_of m log ≡ m + additions log = counted_top m (map_of F) m log is_log in
     let own = c.own in (
       record { id = behind m t c.id; clause = c.clause },
       live_has (behind m t) (after_steps (map_of F) log) (m + 1) (additions log) c.id c.clause (omega arith) (omega arith) c.lives,

@@ -21,7 +21,7 @@ no_one true = refl
 no_one false = refl
 
 -- a lemma for which no open place has all its negations closes no leaf of a subtree
-pub elsewhere_closes_none : (index : Index) (unclosed : List ℕ) (l : Numbered) → All (IsWithin 2000000) l.clause → (from to : ℕ) (node : Node) → ArePlaced from to node
+pub elsewhere_closes_none : (index : Index) (unclosed : List ℕ) (l : Numbered) → All (IsWithin 199999999) l.clause → (from to : ℕ) (node : Node) → ArePlaced from to node
     → AreCovered index from node → AreOpen unclosed from node → ((p : ℕ) → from ≤ p → p < to → Has unclosed p → AllHavePlace index l.clause p → ⊥) → list_any (can_close l) (leaves_in node) ≡ false
 elsewhere_closes_none index unclosed l small from to (Single cube (Some x)) placed covered left nowhere = refl
 elsewhere_closes_none index unclosed l small from to (Single cube None) placed covered left nowhere = cases (closes cube.items l.clause) refl
@@ -29,7 +29,7 @@ elsewhere_closes_none index unclosed l small from to (Single cube None) placed c
     cannot : ¬ (closes cube.items l.clause ≡ true)
     cannot c = nowhere from (omega arith) placed (left refl) (λ x inside.
         covered (negation x) (closes_negates cube.items l.clause c x inside)
-        (subst (λ (v : ℕ). v ≤ 2000000) (sym (var_of-negation x)) (All-contains (IsWithin 2000000) l.clause x small inside).1))
+        (subst (λ (v : ℕ). v ≤ 199999999) (sym (var_of-negation x)) (All-contains (IsWithin 199999999) l.clause x small inside).1))
 
     cases : (b : Bool) → closes cube.items l.clause ≡ b → ((true && closes cube.items l.clause) || false) ≡ false
     cases true e = absurd (cannot e)
@@ -42,14 +42,14 @@ elsewhere_closes_none index unclosed l small from to (Fork' branch middle closed
     ∙ elsewhere_closes_none index unclosed l small middle to right b d f (λ p up down. nowhere p (omega arith) down)
 
 -- and leaves it as it is
-pub elsewhere_unchanged : (l : Candidate) (path : Cube) (index : Index) (unclosed : List ℕ) (from to : ℕ) (node : Node) → All (IsWithin 2000000) l.clause.now → ((p : ℕ) → from ≤ p → p < to → ¬ (Has l.found.now p))
+pub elsewhere_unchanged : (l : Candidate) (path : Cube) (index : Index) (unclosed : List ℕ) (from to : ℕ) (node : Node) → All (IsWithin 199999999) l.clause.now → ((p : ℕ) → from ≤ p → p < to → ¬ (Has l.found.now p))
     → IsSubtree path node → ArePlaced from to node → to ≤ 65536 → AreCovered index from node → AreOpen unclosed from node → IsFound index unclosed l.clause.now l.found.now
     → HasSettled (candidate_of l) path node node false
 elsewhere_unchanged l path index unclosed from to node small none tree placed limit covered left found =
     unchanged (candidate_of l) path node tree
     (elsewhere_closes_none index unclosed (candidate_of l) small from to node placed covered left (λ p up down here stand. none p up down (found p (omega arith) here stand)))
 
-pub nothing_found : (index : Index) (unclosed : List ℕ) (l : Numbered) (node : Node) → All (IsWithin 2000000) l.clause → ((p : ℕ) → p < 65536 → Has unclosed p → AllHavePlace index l.clause p → ⊥)
+pub nothing_found : (index : Index) (unclosed : List ℕ) (l : Numbered) (node : Node) → All (IsWithin 199999999) l.clause → ((p : ℕ) → p < 65536 → Has unclosed p → AllHavePlace index l.clause p → ⊥)
     → IsSubtree [] node → IsIndexed index unclosed node → HasSettled l [] node node false
 nothing_found index unclosed l node small none tree i =
     unchanged l [] node tree (elsewhere_closes_none index unclosed l small 0 65536 node i.placed i.covered i.left (λ p up down. none p down))

@@ -61,7 +61,7 @@ whole_text F cubes logs written more g b closed more_is few =
     let last : top_of m steps ≡ (forks [] g.top tree).top =
     top_append m s.steps (forks [] s.top tree).steps ∙ ap (λ (t : ℕ). top_of t (forks [] s.top tree).steps) tops ∙ forks_top [] s.top tree ∙ ap (λ (t : ℕ). (forks [] t tree).top) (sym b.stands.top) in
     let text : IsJoinTextOf F cubes logs (written ++ more) = record { steps = steps; join_of = made; numbers = omega arith; is = whole } in
-    let refutes : RefutesByRup F (written ++ more) = gathered_text_refutes F cubes logs (written ++ more) b.are b.limits text in
+    let refutes : RefutesByRup F (written ++ more) = gathered_text_refutes F cubes logs (written ++ more) b.vars b.are b.limits text in
     (text, refutes, rup_accepted F (written ++ more) refutes)
 
 ends_closed : (path : Cube) (tree : Ended) → list_all is_closed (ends path tree) ≡ true

@@ -81,16 +81,16 @@ block_read index l p block row other word is read h =
     subst (λ (n : ℕ). Has index.words.items (n * 1024 + p % 1024)) (sym same) h.bit
 
 -- a literal whose negation has a row
-pub known_within : (l : Literal) → 2 ≤ index_of (negation l) → index_of (negation l) < 4000002 → IsWithin 2000000 l
+pub known_within : (l : Literal) → 2 ≤ index_of (negation l) → index_of (negation l) < 400000000 → IsWithin 199999999 l
 known_within (Pos v) low high = (omega arith, omega arith)
 known_within (Neg v) low high = (omega arith, omega arith)
 
 -- ---- cubes that are covered literal by literal
-pub met_more : (index : Index) (at : ℕ) (cube : Cube) (x : Literal) → AreMet index at cube → (var_of x ≤ 2000000 → HasPlace index x at) → AreMet index at (cube ++ x ∷ [])
+pub met_more : (index : Index) (at : ℕ) (cube : Cube) (x : Literal) → AreMet index at cube → (var_of x ≤ 199999999 → HasPlace index x at) → AreMet index at (cube ++ x ∷ [])
 met_more index at cube x h here l i low = elim (Contains-append_cases cube (x ∷ []) l i) [
   | inl old ↦ h l old low
   | inr new ↦ elim (Contains-cons_cases x l [] new) [
-    | inl s ↦ subst (λ (k : Literal). HasPlace index k at) s (here (subst (λ (k : Literal). var_of k ≤ 2000000) (sym s) low))
+    | inl s ↦ subst (λ (k : Literal). HasPlace index k at) s (here (subst (λ (k : Literal). var_of k ≤ 199999999) (sym s) low))
     | inr z ↦ absurd (Contains-nil l z)
   ]
 ]

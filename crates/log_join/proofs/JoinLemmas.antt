@@ -1,5 +1,5 @@
 -- The join of logs refutes the formula.
-use Rattle.std.proofs.Common.{◌≡◌, ℕ, ◌+◌, ◌<◌, ◌≤◌, ◌^◌, inl, inr, true, Option, None, List, [], ◌∷◌, ◌++◌, length, Some, refl, sym, subst, arith}
+use Rattle.std.proofs.Common.{◌≡◌, ℕ, max, ◌+◌, ◌*◌, ◌<◌, ◌≤◌, ◌^◌, inl, inr, true, Option, None, List, [], ◌∷◌, ◌++◌, length, Some, refl, sym, subst, arith}
 use Rattle.std.specs.Prelude.{is_some}
 use Rattle.std.specs.List.{Contains}
 use Rattle.std.specs.FinMap.{get}
@@ -9,11 +9,13 @@ use Rattle.dimacs.specs.logic.Cnf.{Cnf}
 use Rattle.dimacs.specs.logic.Literal.{Clause, IsTautology, negation}
 use Rattle.dimacs.proofs.Members.{Contains-head, Contains-cons_cases, Contains-nil}
 use Rattle.icnf.specs.Leaves.{Cube}
-use Rattle.lrat_text.specs.Grammar.{LineSpells}
-use Rattle.lrat_text.specs.Log.{after_step, AreLogSteps, IsLog}
-use Rattle.lrat_text.specs.Runs.{after_steps, top_of}
+use Rattle.lrat_text.specs.Grammar.{LineSpellsWithin}
+use Rattle.lrat_text.specs.Log.{after_step, AreLogSteps, IsLog, log_top}
+use Rattle.lrat_text.specs.Proof.{proof_top}
+use Rattle.lrat_text.specs.Runs.{after_steps, top_of, text_of}
 use Rattle.lrat_text.specs.declared.step.Step.{Step}
 use Rattle.lrat_text.specs.declared.step.Step.TheVariants.{Add, Delete}
+use Rattle.lrat_text.proofs.LineLemmas.{spells_more}
 use Rattle.lrat_text.proofs.RunLemmas.{log_append}
 use Rattle.proof_join.specs.JoinedProof.{Part}
 use Rattle.proof_join.specs.RenumberedProof.{RupRefutation, RefutesByRup}
@@ -92,10 +94,10 @@ module _ (F : Cnf) (cubes : List Cube) (logs : List Handed) (are : AreLogs F log
         | inr a ↦ adds_right p.clause front.steps p.steps a
       ]))
 
-  pub whole_small : AreWritten logs → AreSmall steps
+  pub whole_small : AreWritten F logs → AreSmall (log_top F) steps
   whole_small limits =
-      let small : AreSmall front.steps = gathered_small F cubes logs limits in
-      subst AreSmall (sym g.is) (small_append front.steps (forks [] front.top g.tree).steps small (branch.small small))
+      let small : AreSmall (log_top F) front.steps = gathered_small F cubes logs limits in
+      subst (AreSmall (log_top F)) (sym g.is) (small_append (log_top F) front.steps (forks [] front.top g.tree).steps small (branch.small (log_top F) small))
 
 -- the law over steps
 pub gathered_refutes : (F : Cnf) (cubes : List Cube) (logs : List Handed) (steps : List Step) → AreLogs F logs → IsJoinOf F cubes logs steps → RupRefutation (map_of F) (length F.clauses) steps
@@ -103,23 +105,26 @@ gathered_refutes F cubes logs steps are g =
     log_refutes_by_rup (length F.clauses) (map_of F) (length F.clauses) steps (gathered_log F cubes logs are steps g) (gathered_empty F cubes logs are steps g)
 
 -- the law over texts
-pub gathered_text_refutes : (F : Cnf) (cubes : List Cube) (logs : List Handed) (text : List ℕ) → AreLogs F logs → AreWritten logs → IsJoinTextOf F cubes logs text → RefutesByRup F text
-gathered_text_refutes F cubes logs text are limits g =
+pub gathered_text_refutes : (F : Cnf) (cubes : List Cube) (logs : List Handed) (text : List ℕ) → F.vars ≤ 199999999 → AreLogs F logs → AreWritten F logs → IsJoinTextOf F cubes logs text → RefutesByRup F text
+gathered_text_refutes F cubes logs text vars are limits g =
     let m : ℕ = length F.clauses in
+    let fits : max 2000000 F.vars < 2 ^ 48 = omega arith in
+    let more : max 2000000 F.vars ≤ max 2000000 (2 * F.vars) = omega arith in
     let log : AreLogSteps m (map_of F) m g.steps = gathered_log F cubes logs are g.steps g.join_of in
     let some : 1 ≤ m = log_some m (map_of F) m g.steps [] log (between_formula F) (gathered_empty F cubes logs are g.steps g.join_of) in (
       g.steps,
-      subst (λ (t : List ℕ). LineSpells t g.steps) (sym g.is)
-          (log_spells m (top_of m g.steps) (map_of F) m g.steps log (between_formula F) some (omega arith) g.numbers (whole_small F cubes logs are g.steps g.join_of limits)),
+      subst (λ (t : List ℕ). LineSpellsWithin (proof_top F) t g.steps) (sym g.is)
+          (spells_more (log_top F) (proof_top F) more (text_of m g.steps) g.steps
+          (log_spells (log_top F) fits m (top_of m g.steps) (map_of F) m g.steps log (between_formula F) some (omega arith) g.numbers (whole_small F cubes logs are g.steps g.join_of limits))),
       gathered_refutes F cubes logs g.steps are g.join_of,
     )
 
 -- between two logs the text is a log, and closes what is closed
 pub lines_close : (F : Cnf) (cubes : List Cube) (logs : List Handed) (g : LogJoiner) (written : List ℕ) → BetweenLogs F cubes logs g written
-    → (k : Leaf) → Contains (leaves_of g) k → is_closed k ≡ true → (steps : List Step) × LineSpells written steps × IsLog F steps × ClosesLeaf F k.cube steps
+    → (k : Leaf) → Contains (leaves_of g) k → is_closed k ≡ true → (steps : List Step) × LineSpellsWithin (log_top F) written steps × IsLog F steps × ClosesLeaf F k.cube steps
 lines_close F cubes logs g written b k i e = at k.closing refl e
   where
-    at : (o : Option Numbered) → k.closing ≡ o → is_some o ≡ true → (steps : List Step) × LineSpells written steps × IsLog F steps × ClosesLeaf F k.cube steps
+    at : (o : Option Numbered) → k.closing ≡ o → is_some o ≡ true → (steps : List Step) × LineSpellsWithin (log_top F) written steps × IsLog F steps × ClosesLeaf F k.cube steps
     at None f some = absurd (true≢false (sym some))
     at (Some l) f some =
         let m : ℕ = length F.clauses in
@@ -133,10 +138,12 @@ lines_close F cubes logs g written b k i e = at k.closing refl e
           | inl before ↦ (let r = (between_formula F l.id l.clause before).1 in absurd (omega arith))
         ] in
         let base : 1 ≤ m = log_some m (map_of F) m s.steps l.clause sound.log (between_formula F) added in
+        let vars = b.vars in
+        let fits : max 2000000 F.vars < 2 ^ 48 = omega arith in
         let few : top_of m s.steps < 2 ^ 48 = (let t = sound.top in let u = b.stands.top in let v = g.limit in omega arith) in (
           s.steps,
-          subst (λ (t : List ℕ). LineSpells t s.steps) (sym (b.stands.text base))
-              (log_spells m (top_of m s.steps) (map_of F) m s.steps sound.log (between_formula F) base (omega arith) few (gathered_small F cubes logs b.limits)),
+          subst (λ (t : List ℕ). LineSpellsWithin (log_top F) t s.steps) (sym (b.stands.text base))
+              (log_spells (log_top F) fits m (top_of m s.steps) (map_of F) m s.steps sound.log (between_formula F) base (omega arith) few (gathered_small F cubes logs b.limits)),
           sound.log,
           record { id = l.id; clause = l.clause; own = own; lives = stands.lives; ends = stands.ends },
         )

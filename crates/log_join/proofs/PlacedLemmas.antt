@@ -28,13 +28,13 @@ use Rattle.log_join.proofs.DeletionLemmas.{deletions_log, deletions_keep, deleti
 use Rattle.log_join.proofs.LiveLemmas.{live_rising}
 
 -- ---- the greatest number
-pub log_top : (m : ℕ) (M : ClauseMap) (top : ℕ) (steps : List Step) → AreLogSteps m M top steps → top_of top steps ≡ top + additions steps
-log_top m M top [] h = omega arith
-log_top m M top (Add id lits hints groups ∷ steps) h =
+pub counted_top : (m : ℕ) (M : ClauseMap) (top : ℕ) (steps : List Step) → AreLogSteps m M top steps → top_of top steps ≡ top + additions steps
+counted_top m M top [] h = omega arith
+counted_top m M top (Add id lits hints groups ∷ steps) h =
     let e = h.0.0 in
-    let r = log_top m (after_step M (Add id lits hints groups)) id steps h.1 in
+    let r = counted_top m (after_step M (Add id lits hints groups)) id steps h.1 in
     r ∙ omega arith
-log_top m M top (Delete ids ∷ steps) h = log_top m (after_step M (Delete ids)) top steps h.1
+counted_top m M top (Delete ids ∷ steps) h = counted_top m (after_step M (Delete ids)) top steps h.1
 
 additions_renumbered : (f : ℕ → ℕ) (steps : List Step) → additions (map (renumbered f) steps) ≡ additions steps
 additions_renumbered f [] = refl
@@ -125,7 +125,7 @@ module _ (F : Cnf) (g : JoinState) (s : IsSound F g) (h : Handed) (is_log : IsLo
   moved_own = steps_mirrored (length F.clauses) g.top low h.steps (map_of F) before (length F.clauses) g.top (omega arith) (omega arith) mirrors is_log
 
   pub moved_top : top_of g.top moved ≡ g.top + additions h.steps
-  moved_top = log_top g.top before g.top moved moved_own ∙ ap (λ (n : ℕ). g.top + n) (additions_renumbered (behind (length F.clauses) g.top) h.steps)
+  moved_top = counted_top g.top before g.top moved moved_own ∙ ap (λ (n : ℕ). g.top + n) (additions_renumbered (behind (length F.clauses) g.top) h.steps)
 
   -- the steps of the log so far, after what was gathered
   pub within_log : AreLogSteps (length F.clauses) (map_of F) (length F.clauses) (g.steps ++ moved)

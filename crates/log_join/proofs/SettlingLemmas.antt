@@ -10,11 +10,12 @@ use Rattle.dimacs.specs.logic.ClauseMap.{ClauseMap, map_of}
 use Rattle.dimacs.specs.logic.Cnf.{Cnf}
 use Rattle.dimacs.specs.logic.Literal.{Clause, IsWithin}
 use Rattle.icnf.specs.Leaves.{Cube}
-use Rattle.lrat_text.specs.Grammar.{IsStep}
-use Rattle.lrat_text.specs.Log.{IsLog, additions}
+use Rattle.lrat_text.specs.Grammar.{IsStepWithin}
+use Rattle.lrat_text.specs.Log.{IsLog, additions, log_top}
 use Rattle.lrat_text.specs.Runs.{after_steps, top_of, text_of}
 use Rattle.lrat_text.specs.declared.step.Step.{Step}
 use Rattle.lrat_text.specs.declared.step.Step.TheVariants.{Add}
+use Rattle.lrat_text.proofs.LineLemmas.{step_more}
 use Rattle.lrat_text.proofs.RunLemmas.{text_append}
 use Rattle.proof_join.specs.RenumberedSteps.{behind}
 use Rattle.proof_join.proofs.MapLemmas.{between_formula}
@@ -28,7 +29,7 @@ use Rattle.log_join.specs.declared.log_joiner.LogJoiner.{LogJoiner}
 use Rattle.log_join.specs.declared.leaf_index.Index.{Index}
 use Rattle.log_join.specs.declared.tree.Node.{Node}
 use Rattle.log_join.proofs.SmallLemmas.{live_added}
-use Rattle.log_join.proofs.PlacedLemmas.{IsSound, gathered_sound, sound_low, within_top, log_top, log_between}
+use Rattle.log_join.proofs.PlacedLemmas.{IsSound, gathered_sound, sound_low, within_top, counted_top, log_between}
 
 -- ---- one lemma more
 pub live_append : (f : ℕ → ℕ) (N : ClauseMap) (first a b : ℕ) → live_from f N first (a + b) ≡ live_from f N first a ++ live_from f N (first + a) b
@@ -111,10 +112,14 @@ no_leaves [] = refl
 no_leaves (x ∷ xs) = no_leaves xs
 
 -- a clause of the log's own that is live has literals within the limits
-pub own_small : (F : Cnf) (log : List Step) (number : ℕ) (C : Clause) → All IsStep log → length F.clauses < number → get (after_steps (map_of F) log) number ≡ Some C → All (IsWithin 2000000) C
-own_small F log number C limits own live = elim (live_added (map_of F) log number C live) [
+pub own_small : (F : Cnf) (log : List Step) (number : ℕ) (C : Clause) → F.vars ≤ 199999999 → All (IsStepWithin (log_top F)) log → length F.clauses < number → get (after_steps (map_of F) log) number ≡ Some C → All (IsWithin 199999999) C
+own_small F log number C vars limits own live = elim (live_added (map_of F) log number C live) [
   | inl before ↦ let r = (between_formula F number C before).1 in absurd (omega arith)
-  | inr a ↦ let z : IsStep (Add a.0 C a.1 a.2) = All-contains IsStep log (Add a.0 C a.1 a.2) limits a.3 in z.1
+  | inr a ↦
+      let z : IsStepWithin (log_top F) (Add a.0 C a.1 a.2) = All-contains (IsStepWithin (log_top F)) log (Add a.0 C a.1 a.2) limits a.3 in
+      let more : max 2000000 F.vars ≤ 199999999 = omega arith in
+      let y : IsStepWithin 199999999 (Add a.0 C a.1 a.2) = step_more (log_top F) 199999999 more (Add a.0 C a.1 a.2) z in
+      y.1
 ]
 
 pub same_indexed : (old new : LogJoiner) → new.index ≡ old.index → new.unclosed.items ≡ old.unclosed.items → new.tree ≡ old.tree → IsIndexed old.index old.unclosed.items old.tree
@@ -125,7 +130,7 @@ same_indexed old new index unclosed tree h =
 
 -- ---- what a call does to a gatherer that is under way
 module _ (F : Cnf) (cubes : List Cube) (logs : List Handed) (log : List Step) (some : List Leaf) (ids : List ℕ) (written : List ℕ) (old new : LogJoiner) (way : IsUnderWay F cubes logs log some ids old written) where
-  pub tried : (l : Numbered) (b : Bool) → All (IsWithin 2000000) l.clause → Closes old new l b → (b ≡ list_any (can_close l) some) × IsUnderWay F cubes logs log (settled l some) ids new written
+  pub tried : (l : Numbered) (b : Bool) → All (IsWithin 199999999) l.clause → Closes old new l b → (b ≡ list_any (can_close l) some) × IsUnderWay F cubes logs log (settled l some) ids new written
   tried l b small c =
       let h : HasSettled l [] old.tree new.tree b = (c.tree small way.stands.tree way.stands.indexed).0 in (
         h.told ∙ ap (λ (ks : List Leaf). list_any (can_close l) ks) way.stands.leaves,
@@ -144,6 +149,7 @@ module _ (F : Cnf) (cubes : List Cube) (logs : List Handed) (log : List Step) (s
             text = way.stands.text;
           };
           spent_are = c.spent ∙ way.spent_are;
+          vars = way.vars;
         },
       )
 
@@ -163,6 +169,7 @@ module _ (F : Cnf) (cubes : List Cube) (logs : List Handed) (log : List Step) (s
       text = way.stands.text;
     };
     spent_are = s.spent ∙ ap (λ (ns : List ℕ). ns ++ id ∷ []) way.spent_are;
+    vars = way.vars;
   }
 
 -- ---- an accepted log
@@ -184,8 +191,8 @@ module _ (F : Cnf) (cubes : List Cube) (logs : List Handed) (log : List Step) (n
   same_lemma : ◌≡◌ {A = Numbered} (record { id = id; clause = C }) one
   same_lemma = ap (λ (x : ℕ). record { id = x; clause = C }) same_id
 
-  small : All (IsWithin 2000000) C
-  small = own_small F log number C e.way.limits (let l = e.low in omega arith) live
+  small : All (IsWithin 199999999) C
+  small = own_small F log number C e.way.vars e.way.limits (let l = e.low in omega arith) live
 
   after_try : (b ≡ list_any (can_close one) (all_settled first below)) × IsUnderWay F cubes logs log (settled one (all_settled first below)) (spent first below) mid written
   after_try = tried F cubes logs log (all_settled first below) (spent first below) written old mid e.way one b small (subst (λ (l : Numbered). Closes old mid l b) same_lemma c)
@@ -272,7 +279,7 @@ log_ended F cubes logs h n written old new more e none base top tree index unclo
     let steps_top : top_of m (steps_within F cubes logs h.steps) ≡ old.top = within_top F g sound h e.way.is_log ∙ sym e.way.stands.top in
     record {
       are = All-append (λ (x : Handed). IsLog F x.steps) logs (h ∷ []) e.way.are (All-cons (λ (x : Handed). IsLog F x.steps) h [] e.way.is_log (All-nil (λ (x : Handed). IsLog F x.steps)));
-      limits = All-append (λ (x : Handed). All IsStep x.steps) logs (h ∷ []) e.way.before (All-cons (λ (x : Handed). All IsStep x.steps) h [] e.way.limits (All-nil (λ (x : Handed). All IsStep x.steps)));
+      limits = All-append (λ (x : Handed). All (IsStepWithin (log_top F)) x.steps) logs (h ∷ []) e.way.before (All-cons (λ (x : Handed). All (IsStepWithin (log_top F)) x.steps) h [] e.way.limits (All-nil (λ (x : Handed). All (IsStepWithin (log_top F)) x.steps)));
       stands = subst (λ (z : JoinState). IsInStep F cubes new z.steps z.top z.leaves (written ++ more)) (sym one_more) (record {
         base = base ∙ e.way.stands.base;
         top = top ∙ e.way.stands.top;
@@ -287,11 +294,12 @@ log_ended F cubes logs h n written old new more e none base top tree index unclo
             ∙ sym (text_append m (steps_within F cubes logs h.steps) (deletions ids));
       });
       none_spent = spent_none;
+      vars = e.way.vars;
     }
   where
     not_live : (k : ℕ) → (length F.clauses + 1) + additions h.steps ≤ k → (o : Option Clause) → get (after_steps (map_of F) h.steps) k ≡ o → get (after_steps (map_of F) h.steps) k ≡ None
     not_live k far None z = z
     not_live k far (Some C) z =
         let r = (log_between (length F.clauses) (map_of F) (length F.clauses) h.steps e.way.is_log (between_formula F) k C z).1 in
-        let t = log_top (length F.clauses) (map_of F) (length F.clauses) h.steps e.way.is_log in
+        let t = counted_top (length F.clauses) (map_of F) (length F.clauses) h.steps e.way.is_log in
         absurd (omega arith)

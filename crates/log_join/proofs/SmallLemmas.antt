@@ -10,8 +10,8 @@ use Rattle.dimacs.specs.logic.Cnf.{Cnf}
 use Rattle.dimacs.specs.logic.Literal.{Clause, IsWithin}
 use Rattle.dimacs.proofs.Members.{Contains-head, Contains-cons, Contains-cons_cases, Contains-nil}
 use Rattle.icnf.specs.Leaves.{Cube}
-use Rattle.lrat_text.specs.Grammar.{IsStep}
-use Rattle.lrat_text.specs.Log.{AreLogSteps}
+use Rattle.lrat_text.specs.Grammar.{IsStepWithin}
+use Rattle.lrat_text.specs.Log.{AreLogSteps, log_top}
 use Rattle.lrat_text.specs.Proof.{without}
 use Rattle.lrat_text.specs.Runs.{after_steps}
 use Rattle.lrat_text.specs.declared.step.Step.{Step}
@@ -59,42 +59,42 @@ log_some m M top (Delete ids ∷ steps) C (h, rest) between a =
     ])
 
 -- ---- clauses stay within the limits of a line
-pub small_append : (xs ys : List Step) → AreSmall xs → AreSmall ys → AreSmall (xs ++ ys)
-small_append xs ys h g id lits hints groups inside = elim (Contains-append_cases xs ys (Add id lits hints groups) inside) [
+pub small_append : (most : ℕ) (xs ys : List Step) → AreSmall most xs → AreSmall most ys → AreSmall most (xs ++ ys)
+small_append most xs ys h g id lits hints groups inside = elim (Contains-append_cases xs ys (Add id lits hints groups) inside) [
   | inl a ↦ h id lits hints groups a
   | inr b ↦ g id lits hints groups b
 ]
 
-renumbered_small : (f : ℕ → ℕ) (steps : List Step) → All IsStep steps → AreSmall (map (renumbered f) steps)
-renumbered_small f [] h id lits hints groups inside = absurd (Contains-nil (Add id lits hints groups) inside)
-renumbered_small f (step ∷ steps) h id lits hints groups inside = elim (Contains-cons_cases (renumbered f step) (Add id lits hints groups) (map (renumbered f) steps) inside) [
-  | inl e ↦ one step (All-head IsStep step steps h) e
-  | inr later ↦ renumbered_small f steps (All-tail IsStep step steps h) id lits hints groups later
+renumbered_small : (most : ℕ) (f : ℕ → ℕ) (steps : List Step) → All (IsStepWithin most) steps → AreSmall most (map (renumbered f) steps)
+renumbered_small most f [] h id lits hints groups inside = absurd (Contains-nil (Add id lits hints groups) inside)
+renumbered_small most f (step ∷ steps) h id lits hints groups inside = elim (Contains-cons_cases (renumbered f step) (Add id lits hints groups) (map (renumbered f) steps) inside) [
+  | inl e ↦ one step (All-head (IsStepWithin most) step steps h) e
+  | inr later ↦ renumbered_small most f steps (All-tail (IsStepWithin most) step steps h) id lits hints groups later
 ]
   where
-    one : (s : Step) → IsStep s → renumbered f s ≡ Add id lits hints groups → All (IsWithin 2000000) lits
-    one (Add n C more gs) limits e = let same_clause : C ≡ lits = cc in subst (All (IsWithin 2000000)) same_clause limits.1
+    one : (s : Step) → IsStepWithin most s → renumbered f s ≡ Add id lits hints groups → All (IsWithin most) lits
+    one (Add n C more gs) limits e = let same_clause : C ≡ lits = cc in subst (All (IsWithin most)) same_clause limits.1
     one (Delete ids) limits e = absurd cc
 
-lines_small : (lines : ℕ) (ids : List ℕ) → AreSmall (deletions_in lines ids)
-lines_small zero ids id lits hints groups inside = absurd (Contains-nil (Add id lits hints groups) inside)
-lines_small (suc lines) [] id lits hints groups inside = absurd (Contains-nil (Add id lits hints groups) inside)
-lines_small (suc lines) (n ∷ ids) id lits hints groups inside =
+lines_small : (most lines : ℕ) (ids : List ℕ) → AreSmall most (deletions_in lines ids)
+lines_small most zero ids id lits hints groups inside = absurd (Contains-nil (Add id lits hints groups) inside)
+lines_small most (suc lines) [] id lits hints groups inside = absurd (Contains-nil (Add id lits hints groups) inside)
+lines_small most (suc lines) (n ∷ ids) id lits hints groups inside =
     elim (Contains-cons_cases (Delete (take 1000 (n ∷ ids))) (Add id lits hints groups) (deletions_in lines (drop 1000 (n ∷ ids))) inside) [
       | inl e ↦ absurd cc
-      | inr later ↦ lines_small lines (drop 1000 (n ∷ ids)) id lits hints groups later
+      | inr later ↦ lines_small most lines (drop 1000 (n ∷ ids)) id lits hints groups later
     ]
 
-log_small : (F : Cnf) (g : JoinState) (h : Handed) → All IsStep h.steps → AreSmall g.steps → AreSmall (with_log F g h).steps
+log_small : (F : Cnf) (g : JoinState) (h : Handed) → All (IsStepWithin (log_top F)) h.steps → AreSmall (log_top F) g.steps → AreSmall (log_top F) (with_log F g h).steps
 log_small F g h limits small =
     let moved : List Step = map (renumbered (behind (length F.clauses) g.top)) h.steps in
     let ids : List ℕ = deleted h.accepted g.leaves (lemmas_of F g.top h.steps) in
-    small_append (g.steps ++ moved) (deletions ids) (small_append g.steps moved small (renumbered_small (behind (length F.clauses) g.top) h.steps limits)) (lines_small (length ids) ids)
+    small_append (log_top F) (g.steps ++ moved) (deletions ids) (small_append (log_top F) g.steps moved small (renumbered_small (log_top F) (behind (length F.clauses) g.top) h.steps limits)) (lines_small (log_top F) (length ids) ids)
 
-logs_small : (F : Cnf) (g : JoinState) (logs : List Handed) → AreWritten logs → AreSmall g.steps → AreSmall (fold (with_log F) g logs).steps
+logs_small : (F : Cnf) (g : JoinState) (logs : List Handed) → AreWritten F logs → AreSmall (log_top F) g.steps → AreSmall (log_top F) (fold (with_log F) g logs).steps
 logs_small F g [] limits small = small
 logs_small F g (h ∷ logs) limits small =
-    logs_small F (with_log F g h) logs (All-tail (λ (x : Handed). All IsStep x.steps) h logs limits) (log_small F g h (All-head (λ (x : Handed). All IsStep x.steps) h logs limits) small)
+    logs_small F (with_log F g h) logs (All-tail (λ (x : Handed). All (IsStepWithin (log_top F)) x.steps) h logs limits) (log_small F g h (All-head (λ (x : Handed). All (IsStepWithin (log_top F)) x.steps) h logs limits) small)
 
-pub gathered_small : (F : Cnf) (cubes : List Cube) (logs : List Handed) → AreWritten logs → AreSmall (joined_so_far F cubes logs).steps
+pub gathered_small : (F : Cnf) (cubes : List Cube) (logs : List Handed) → AreWritten F logs → AreSmall (log_top F) (joined_so_far F cubes logs).steps
 gathered_small F cubes logs limits = logs_small F (nothing F cubes) logs limits (λ id lits hints groups inside. absurd (Contains-nil (Add id lits hints groups) inside))

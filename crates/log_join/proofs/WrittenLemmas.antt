@@ -6,8 +6,8 @@ use Rattle.std.proofs.lemmas.List.Elements.{All-nil, All-cons, All-append}
 use Rattle.dimacs.specs.logic.ClauseMap.{map_of}
 use Rattle.dimacs.specs.logic.Cnf.{Cnf}
 use Rattle.icnf.specs.Leaves.{Cube, Leaves}
-use Rattle.lrat_text.specs.Grammar.{IsStep}
-use Rattle.lrat_text.specs.Log.{IsLog, IsLogStep, top_after}
+use Rattle.lrat_text.specs.Grammar.{IsStepWithin}
+use Rattle.lrat_text.specs.Log.{IsLog, IsLogStep, log_top, top_after}
 use Rattle.lrat_text.specs.Runs.{after_steps, top_of, text_of}
 use Rattle.lrat_text.specs.WrittenLine.{line_of}
 use Rattle.lrat_text.specs.declared.step.Step.{Step}
@@ -31,17 +31,18 @@ zero_drop (x ∷ xs) = refl
 abbrev pub whole_part : (cubes : List Cube) → Leaves [] cubes → IsPart cubes 0 0
 whole_part cubes h = record { path = []; here = cubes; later = []; long = refl; leaves = h; are = zero_drop cubes ∙ sym (append-nil cubes) }
 
-pub nothing_written : (F : Cnf) (cubes : List Cube) (g : LogJoiner) → IsMadeOf [] cubes g.tree → IsIndexed g.index g.unclosed.items g.tree → g.base ≡ length F.clauses → g.top ≡ length F.clauses → g.spent.items ≡ [] → BetweenLogs F cubes [] g []
-nothing_written F cubes g made indexed base top none = record {
+pub nothing_written : (F : Cnf) (cubes : List Cube) (g : LogJoiner) → F.vars ≤ 199999999 → IsMadeOf [] cubes g.tree → IsIndexed g.index g.unclosed.items g.tree → g.base ≡ length F.clauses → g.top ≡ length F.clauses → g.spent.items ≡ [] → BetweenLogs F cubes [] g []
+nothing_written F cubes g vars made indexed base top none = record {
   are = All-nil (λ (h : Handed). IsLog F h.steps);
-  limits = All-nil (λ (h : Handed). All IsStep h.steps);
+  limits = All-nil (λ (h : Handed). All (IsStepWithin (log_top F)) h.steps);
   stands = record { base = base; top = top; tree = made.tree; indexed = indexed; leaves = made.leaves; text = λ some. refl };
   none_spent = none;
+  vars = vars;
 }
 
 -- ---- one step more
 module _ (F : Cnf) (cubes : List Cube) (logs : List Handed) (log : List Step) (written : List ℕ) (old new : LogJoiner) (step : Step)
-    (way : WithinLog F cubes logs log old written) (next : IsLogStep (length F.clauses) (after_steps (map_of F) log) (top_of (length F.clauses) log) step) (limits : IsStep step) where
+    (way : WithinLog F cubes logs log old written) (next : IsLogStep (length F.clauses) (after_steps (map_of F) log) (top_of (length F.clauses) log) step) (limits : IsStepWithin (log_top F) step) where
   abbrev g : JoinState
   g = joined_so_far F cubes logs
 
@@ -80,7 +81,7 @@ module _ (F : Cnf) (cubes : List Cube) (logs : List Handed) (log : List Step) (w
     are = way.are;
     before = way.before;
     is_log = longer;
-    limits = All-append IsStep log (step ∷ []) way.limits (All-cons IsStep step [] limits (All-nil IsStep));
+    limits = All-append (IsStepWithin (log_top F)) log (step ∷ []) way.limits (All-cons (IsStepWithin (log_top F)) step [] limits (All-nil (IsStepWithin (log_top F))));
     begun = moves.begun ∙ way.begun;
     stands = record {
       base = moves.base ∙ way.stands.base;
@@ -93,6 +94,7 @@ module _ (F : Cnf) (cubes : List Cube) (logs : List Handed) (log : List Step) (w
       text = λ some. ap (λ (s : Step). written ++ line_of (max 1 old.top) s) same_numbers ∙ text_longer some ∙ ap (text_of (length F.clauses)) (sym steps_longer);
     };
     spent_are = moves.spent ∙ way.spent_are;
+    vars = way.vars;
   }
 
 -- where a line is refused, the log can go on
@@ -112,4 +114,5 @@ within_same F cubes logs log written old new way moves = record {
     text = way.stands.text;
   };
   spent_are = moves.spent ∙ way.spent_are;
+  vars = way.vars;
 }

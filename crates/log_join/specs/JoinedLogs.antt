@@ -5,8 +5,8 @@ use Rattle.dimacs.specs.logic.Cnf.{Cnf}
 use Rattle.dimacs.specs.logic.ClauseMap.{ClauseMap, map_of}
 use Rattle.dimacs.specs.logic.Literal.{Literal, Clause, negation, var_of}
 use Rattle.icnf.specs.Leaves.{Cube, IsFree}
-use Rattle.lrat_text.specs.Grammar.{IsStep}
-use Rattle.lrat_text.specs.Log.{IsLog, additions}
+use Rattle.lrat_text.specs.Grammar.{IsStepWithin}
+use Rattle.lrat_text.specs.Log.{IsLog, additions, log_top}
 use Rattle.lrat_text.specs.Runs.{after_steps, top_of, text_of}
 use Rattle.lrat_text.specs.declared.step.Step.{Step}
 use Rattle.lrat_text.specs.declared.step.Step.TheVariants.{Delete}
@@ -118,9 +118,9 @@ pub record IsJoinTextOf (F : Cnf) (cubes : List Cube) (logs : List Handed) (text
 abbrev pub AreLogs : Cnf → List Handed → Type 0
 AreLogs F logs = All (λ h. IsLog F h.steps) logs
 
--- the steps of each of these logs are within the limits of lines
-abbrev pub AreWritten : List Handed → Type 0
-AreWritten logs = All (λ h. All IsStep h.steps) logs
+-- the steps of each of these logs are within the limits of the lines of a log over the formula
+abbrev pub AreWritten : Cnf → List Handed → Type 0
+AreWritten F logs = All (λ h. All (IsStepWithin (log_top F)) h.steps) logs
 
 -- at the end of the log a lemma of its own is live that closes the leaf with the cube q
 pub record ClosesLeaf (F : Cnf) (q : Cube) (log : List Step) : Type 0 where

@@ -52,9 +52,9 @@ abbrev pub ArePlaced : ℕ → ℕ → Node → Type 0
 ArePlaced from to (Single cube closing) = from < to
 ArePlaced from to (Fork' branch middle closed p left q right) = ArePlaced from middle left × ArePlaced middle to right
 
--- the leaf index is in the set of each literal of the leaf's cube that lines may have
+-- the leaf index is in the set of each literal of the leaf's cube that a line may have over some base
 abbrev pub AreMet : Index → ℕ → Cube → Type 0
-AreMet index at cube = (l : Literal) → Contains cube l → var_of l ≤ 2000000 → HasPlace index l at
+AreMet index at cube = (l : Literal) → Contains cube l → var_of l ≤ 199999999 → HasPlace index l at
 
 -- the index of each leaf of a subtree is in the set of each literal of the leaf's cube that lines may have; the first leaf has the index
 -- `from`

@@ -4,8 +4,8 @@ use Rattle.std.specs.FinMap.{get}
 use Rattle.dimacs.specs.logic.Cnf.{Cnf}
 use Rattle.dimacs.specs.logic.ClauseMap.{ClauseMap, map_of}
 use Rattle.icnf.specs.Leaves.{Cube}
-use Rattle.lrat_text.specs.Grammar.{IsStep}
-use Rattle.lrat_text.specs.Log.{IsLog, additions}
+use Rattle.lrat_text.specs.Grammar.{IsStepWithin}
+use Rattle.lrat_text.specs.Log.{IsLog, additions, log_top}
 use Rattle.lrat_text.specs.Runs.{after_steps, text_of}
 use Rattle.lrat_text.specs.declared.step.Step.{Step}
 use Rattle.lrat_text.specs.declared.step.Step.TheVariants.{Add, Delete}
@@ -37,9 +37,10 @@ pub record IsInStep (F : Cnf) (cubes : List Cube) (g : LogJoiner) (steps : List 
 -- between two logs: the bytes written are the join of the logs that were handed in
 pub record BetweenLogs (F : Cnf) (cubes : List Cube) (logs : List Handed) (g : LogJoiner) (written : List ℕ) : Type 0 where
   pub are : AreLogs F logs
-  pub limits : AreWritten logs
+  pub limits : AreWritten F logs
   pub stands : IsInStep F cubes g (joined_so_far F cubes logs).steps (joined_so_far F cubes logs).top (joined_so_far F cubes logs).leaves written
   pub none_spent : g.spent.items ≡ []
+  pub vars : F.vars ≤ 199999999
 
 -- the steps written after these logs and the beginning of one more
 abbrev pub steps_within : Cnf → List Cube → List Handed → List Step → List Step
@@ -49,12 +50,13 @@ steps_within F cubes logs log = (joined_so_far F cubes logs).steps ++ map (renum
 -- deleted
 pub record IsUnderWay (F : Cnf) (cubes : List Cube) (logs : List Handed) (log : List Step) (some : List Leaf) (ids : List ℕ) (g : LogJoiner) (written : List ℕ) : Type 0 where
   pub are : AreLogs F logs
-  pub before : AreWritten logs
+  pub before : AreWritten F logs
   pub is_log : IsLog F log
-  pub limits : All IsStep log
+  pub limits : All (IsStepWithin (log_top F)) log
   pub begun : g.begun ≡ (joined_so_far F cubes logs).top
   pub stands : IsInStep F cubes g (steps_within F cubes logs log) ((joined_so_far F cubes logs).top + additions log) some written
   pub spent_are : g.spent.items ≡ ids
+  pub vars : F.vars ≤ 199999999
 
 -- within a log, no lemma of which was taken yet: these steps of it are written after the join of `logs`
 abbrev pub WithinLog : Cnf → List Cube → List Handed → List Step → LogJoiner → List ℕ → Type 0

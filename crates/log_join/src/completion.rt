@@ -50,7 +50,7 @@ impl LogJoiner {
         is_closed_below(&self.tree)
     }
 
-    /// Returns the indices of the open leaves, from 0, rising.
+    /// Lists the open leaves by their indices, from 0, rising.
     pub fn missing(&self) -> Result<Vec<usize>, AllocError>
         ensures { IfOk result (λ places. length (leaves_of self.now) < 2 ^ 64 → places.items ≡ open_from 0 (leaves_of self.now)) }
     {

@@ -13,13 +13,14 @@ ghost use Rattle.log_join.specs.inner.Forks.{HasPut};
 use crate::fault::LogJoinFault;
 use crate::fork_writer::ForkWriter;
 use crate::lemma::Lemma;
+use crate::line_writer::put_line;
 use crate::numbers::LIMIT;
 use crate::tree::Node;
 use dimacs::{Lit, has_literal};
-use lrat_text::{Groups, StepRef, put_ref};
+use lrat_text::{Groups, StepRef};
 use std::alloc::{AllocError, Global};
 
-/// Returns a copy of a lemma.
+/// Returns a copy of a lemma, since the tree keeps the one that closed the leaf.
 fn copy_of(alloc: Global, lemma: &Lemma) -> Result<Lemma, AllocError>
     ensures { IfOk result (λ l. lemma_of l ≡ lemma_of lemma.now) }
 {
@@ -28,7 +29,9 @@ fn copy_of(alloc: Global, lemma: &Lemma) -> Result<Lemma, AllocError>
     Ok(Lemma { id, clause })
 }
 
-/// Returns the resolvent of a fork's two clauses: the negations of those literals of the path whose negation is in one of the clauses.
+/// Returns the clause of a fork: the resolvent of its branches' clauses. Those have only negations
+/// of the cube's literals, so the resolvent is collected along the path: each literal's negation,
+/// if one of the clauses has it.
 fn resolve(alloc: Global, path: &[Lit], left: &[Lit], right: &[Lit]) -> Result<Vec<Lit>, AllocError>
     ensures { IfOk result (λ c. c.items ≡ resolvent path.now left.now right.now) }
 {
@@ -70,12 +73,13 @@ impl ForkWriter {
             hints: &[left.id, right.id],
             groups: &groups,
         };
-        put_ref(line, id, &mut self.lines)?;
+        put_line(line, id, &mut self.lines)?;
         self.top = id;
         Ok(Lemma { id, clause })
     }
 
-    /// Appends the lines of a branch's forks, as [`ForkWriter::put_below`] does, with the branch's literal on the path during the call.
+    /// Appends the lines of the forks in a branch, and returns the lemma that the branch proves.
+    /// The branch's literal is on the path during the call.
     #[cycle(put)]
     fn put_branch(&mut self, taken: Lit, node: &Node) -> Result<Lemma, LogJoinFault>
         ensures put { IfOk result (λ l. HasPut (forks (self.old.path.items ++ taken ∷ []) self.old.top (ended node.now)) self.old self.new l) }

@@ -31,11 +31,11 @@ fn zeros(alloc: Global, count: usize) -> Result<Vec<u32>, AllocError>
     vec![in alloc; 0; count]
 }
 
-/// Lengthens a table by zeros, if it has no entry at this index.
+/// Lengthens a table by zeros, if it has no entry at this index. 0 is the row that no literal has.
 fn lengthen(table: &mut Vec<u32>, place: usize) -> Result<(), AllocError>
-    requires { place < 4000002 }
+    requires { place < 400000000 }
     ensures reached { OnOk result (place < length table.new.items) }
-    ensures bound { length table.old.items ≤ 4000002 → length table.new.items ≤ 4000002 }
+    ensures bound { length table.old.items ≤ 400000000 → length table.new.items ≤ 400000000 }
     ensures same { (i : ℕ) → slice_index_or table.new.items i 0 ≡ slice_index_or table.old.items i 0 }
 {
     if table.len() <= place {
@@ -44,9 +44,9 @@ fn lengthen(table: &mut Vec<u32>, place: usize) -> Result<(), AllocError>
     Ok(())
 }
 
-/// Makes the slot of a literal's code, if there is none.
+/// Makes the slot of a literal's code, if there is none; a new slot names no row.
 fn reach(index: &mut Index, code: usize) -> Result<(), AllocError>
-    requires { code < 4000002 }
+    requires { code < 400000000 }
     ensures reached { OnOk result (code < length index.new.slots.items) }
     ensures kept { OnOk result (Keeps index.old index.new) }
 {
@@ -91,10 +91,11 @@ fn block_for(index: &mut Index, at: usize) -> Result<usize, AllocError>
     Ok(fresh)
 }
 
-/// Adds a leaf index to the set of a literal. A literal that no line may have gets no set, since no lemma has it.
+/// Adds a leaf index to the set of a literal that the leaf's cube has. A literal whose code is too
+/// great for any line gets no set, since no lemma has it.
 fn note(index: &mut Index, l: Lit, place: usize) -> Result<(), AllocError>
     requires { place < 65536 }
-    ensures here { OnOk result (var_of l ≤ 2000000 → HasPlace index.new l place) }
+    ensures here { OnOk result (var_of l ≤ 199999999 → HasPlace index.new l place) }
     ensures kept { OnOk result (Keeps index.old index.new) }
 {
     let code = l.index();
@@ -160,7 +161,7 @@ fn slots_below(node: &Node) -> usize {
     }
 }
 
-/// Builds the index of a tree.
+/// Builds the index of a tree, by which a lemma's leaves are found without a pass over all leaves.
 pub(crate) fn index_of(alloc: Global, node: &Node) -> Result<Index, AllocError>
     requires { AreLow 0 node.now }
     ensures { IfOk result (λ index. AreCovered index 0 node.now) }

@@ -1,11 +1,11 @@
 //! Laws of joined logs, as contracts of calls that do nothing.
 
-ghost use Rattle.std.specs.Prelude.{◌≡◌, ℕ, Bool, true, false, List, [], ◌∷◌, ◌+◌, ◌++◌, length, map, codes, Contains};
+ghost use Rattle.std.specs.Prelude.{◌≡◌, ◌≤◌, ℕ, Bool, true, false, List, [], ◌∷◌, ◌+◌, ◌++◌, length, map, codes, Contains};
 ghost use Rattle.dimacs.specs.logic.ClauseMap.{map_of};
 ghost use Rattle.dimacs.specs.logic.Cnf.{Cnf};
 ghost use Rattle.icnf.specs.Leaves.{Cube, Leaves};
-ghost use Rattle.lrat_text.specs.Grammar.{LineSpells};
-ghost use Rattle.lrat_text.specs.Log.{IsLog};
+ghost use Rattle.lrat_text.specs.Grammar.{LineSpellsWithin};
+ghost use Rattle.lrat_text.specs.Log.{IsLog, log_top};
 ghost use Rattle.lrat_text.specs.declared.step.Step.{Step};
 ghost use Rattle.proof_join.specs.RenumberedProof.{RupRefutation, RefutesByRup};
 ghost use Rattle.lrat_text.specs.Runs.{text_of};
@@ -22,7 +22,7 @@ pub fn joined_logs_refute()
         → AreLogs F logs → IsJoinOf F cubes logs steps → RupRefutation (map_of F) (length F.clauses) steps }
     // The text of the join refutes the formula too.
     ensures text { (F : Cnf) (cubes : List Cube) (logs : List Handed) (text : List ℕ)
-        → AreLogs F logs → AreWritten logs → IsJoinTextOf F cubes logs text → RefutesByRup F text }
+        → F.vars ≤ 199999999 → AreLogs F logs → AreWritten F logs → IsJoinTextOf F cubes logs text → RefutesByRup F text }
 {}
 
 /// Logs over a formula have a join exactly if each leaf of the tree is closed by one of the accepted logs, and the join is unique.
@@ -57,7 +57,7 @@ pub fn joiner_states()
 /// What was written when a log has ended is itself a log over the formula, which closes each leaf that is closed.
 pub fn joined_lines_close()
     ensures { (F : Cnf) (cubes : List Cube) (logs : List Handed) (g : LogJoiner) (written : List ℕ) → BetweenLogs F cubes logs g written
-        → (k : Leaf) → Contains (leaves_of g) k → is_closed k ≡ true → (steps : List Step) × LineSpells written steps × IsLog F steps × ClosesLeaf F k.cube steps }
+        → (k : Leaf) → Contains (leaves_of g) k → is_closed k ≡ true → (steps : List Step) × LineSpellsWithin (log_top F) written steps × IsLog F steps × ClosesLeaf F k.cube steps }
 {}
 
 /// The join of three logs over a formula of four clauses, the second of which is refused.

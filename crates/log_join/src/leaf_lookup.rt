@@ -16,7 +16,7 @@ use dimacs::Lit;
 /// Returns the row of a literal; 0 if no cube has it.
 fn row_of(index: &Index, l: Lit) -> usize
     ensures value { result ≡ row_of index.now l }
-    ensures known { 0 < result → (2 ≤ index_of l) × (index_of l < 4000002) }
+    ensures known { 0 < result → (2 ≤ index_of l) × (index_of l < 400000000) }
 {
     match index.slots.get(l.index()) {
         Some(row) => *row as usize,
@@ -24,9 +24,10 @@ fn row_of(index: &Index, l: Lit) -> usize
     }
 }
 
-/// Tells whether the negation of each literal of a clause is in some cube.
+/// Tells whether the negation of each literal of a clause is in some cube; if not, the clause
+/// closes no leaf, and the blocks are not searched.
 fn are_known(index: &Index, clause: &[Lit]) -> bool
-    ensures small { IsTrue result → All (IsWithin 2000000) clause.now }
+    ensures small { IsTrue result → All (IsWithin 199999999) clause.now }
     ensures none { result ≡ false → (l : Literal) × Contains clause.now l × (row_of index.now (negation l) ≡ 0) }
 {
     for l in clause {
@@ -37,7 +38,8 @@ fn are_known(index: &Index, clause: &[Lit]) -> bool
     true
 }
 
-/// Returns a block of the open leaves, intersected with the sets of the negations of a clause's literals; `None` if no leaf is left.
+/// Returns the open leaves of a block that a clause closes: their cubes have the negation of each
+/// of its literals. `None` if there is no such leaf.
 fn meet(index: &Index, clause: &[Lit], unclosed: &[u64], block: usize) -> Option<[u64; BLOCK]>
     requires unclosed { length unclosed.now ≡ 1024 }
     requires block { block < 64 }
@@ -57,7 +59,8 @@ fn meet(index: &Index, clause: &[Lit], unclosed: &[u64], block: usize) -> Option
     Some(part)
 }
 
-/// Writes the intersection that `meet` returns to a block of `found`, zeros if there is none, and tells whether a leaf is left.
+/// Writes the open leaves of a block that a clause closes to the same block of `found`, and tells
+/// whether there is one.
 fn find_in(index: &Index, clause: &[Lit], unclosed: &[u64], block: usize, found: &mut [u64]) -> bool
     requires unclosed { length unclosed.now ≡ 1024 }
     requires found { length found.old ≡ 1024 }
@@ -81,7 +84,7 @@ fn find_in(index: &Index, clause: &[Lit], unclosed: &[u64], block: usize, found:
 pub(crate) fn find(index: &Index, clause: &[Lit], unclosed: &[u64], found: &mut [u64]) -> bool
     requires unclosed { length unclosed.now ≡ 1024 }
     requires found { length found.old ≡ 1024 }
-    ensures small { IsTrue result → All (IsWithin 2000000) clause.now }
+    ensures small { IsTrue result → All (IsWithin 199999999) clause.now }
     ensures found { (p : ℕ) → p < 65536 → Has unclosed.now p → AllHavePlace index.now clause.now p → (result ≡ true) × Has found.new p }
 {
     if !are_known(index, clause) {

@@ -12,7 +12,7 @@ pub(crate) struct Lemma {
     pub(crate) id: u64,
     pub(crate) clause: Vec<Lit>,
     ghost numbered: { IsClauseNumber id },
-    ghost small: { All (IsWithin 2000000) clause.items },
+    ghost small: { All (IsWithin 199999999) clause.items },
 }
 
 /// A borrowed lemma, and the set of the indices of the open leaves that it may close.
@@ -22,5 +22,5 @@ pub(crate) struct Candidate<'a> {
     pub(crate) clause: &'a [Lit],
     pub(crate) found: &'a [u64],
     ghost numbered: { IsClauseNumber id },
-    ghost small: { All (IsWithin 2000000) clause.now },
+    ghost small: { All (IsWithin 199999999) clause.now },
 }

@@ -16,6 +16,7 @@ mod laws;
 mod leaf_index;
 mod leaf_lookup;
 mod lemma;
+mod line_writer;
 mod log_end;
 mod log_joiner;
 mod log_lines;

@@ -67,7 +67,7 @@ impl LogJoiner {
         )
     }
 
-    /// Notes a number of the joined proof, which is deleted after this log.
+    /// Notes a number of the joined proof, which the line at the end of this log deletes.
     fn delete(&mut self, id: u64) -> Result<(), AllocError>
         requires { IsClauseNumber id }
         ensures { OnOk result (Spends self.old self.new id) }
@@ -76,10 +76,12 @@ impl LogJoiner {
         Ok(())
     }
 
-    /// Takes a lemma that is live at the end of an accepted log: it closes all open leaves that it can close, or is noted to be deleted.
-    /// Tells whether it closed a leaf. The lemmas come by rising numbers, under their numbers in the log.
+    /// Takes a lemma that is live at the end of an accepted log: it closes all open leaves that it
+    /// can close, or is noted to be deleted, since no fork will need it. Tells whether it closed a
+    /// leaf. The lemmas come by rising numbers, under their numbers in the log.
     ///
-    /// After an error the log cannot go on. `TooLong` is never answered for a number whose line was written.
+    /// After an error the log cannot go on. `TooLong` is never answered for a number whose line was
+    /// written.
     pub fn settle(&mut self, number: u64, lits: &[Lit]) -> Result<bool, LogJoinFault>
         requires { 1 ≤ number }
         ensures settled { OnOk result ((F : Cnf) (cubes : List Cube) (logs : List Handed) (log : List Step) (n : ℕ) (written : List ℕ)
@@ -105,10 +107,11 @@ impl LogJoiner {
         Ok(false)
     }
 
-    /// Takes a lemma that is live at the end of a refused log: it is noted to be deleted. The lemmas come by rising numbers, under their
-    /// numbers in the log.
+    /// Takes a lemma that is live at the end of a refused log: it closes nothing, and is noted to
+    /// be deleted. The lemmas come by rising numbers, under their numbers in the log.
     ///
-    /// After an error the log cannot go on. `TooLong` is never answered for a number whose line was written.
+    /// After an error the log cannot go on. `TooLong` is never answered for a number whose line was
+    /// written.
     pub fn spend(&mut self, number: u64) -> Result<(), LogJoinFault>
         requires { 1 ≤ number }
         ensures spent { OnOk result ((F : Cnf) (cubes : List Cube) (logs : List Handed) (log : List Step) (n : ℕ) (written : List ℕ)

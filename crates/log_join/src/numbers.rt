@@ -17,7 +17,7 @@ pub(crate) struct Shift {
     pub(crate) begun: u64,
 }
 
-/// Returns the number if it is below 2^48; else `None`.
+/// Returns the number if a clause may have it, which is below 2^48; else `None`.
 fn within(number: u64) -> Option<u64>
     ensures { SomeIff result (number < 2 ^ 48) number }
 {
@@ -25,7 +25,8 @@ fn within(number: u64) -> Option<u64>
 }
 
 impl Shift {
-    /// Returns the new number of a clause; `None` if it would reach 2^48.
+    /// Returns the new number of a clause: the formula's clauses keep theirs, and a lemma follows
+    /// what was written before its log. `None` if the number would reach 2^48.
     pub(crate) fn number(self, number: u64) -> Option<u64>
         ensures { SomeIff result (behind self.base self.begun number < 2 ^ 48) (behind self.base self.begun number) }
     {

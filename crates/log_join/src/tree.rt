@@ -44,7 +44,7 @@ pub(crate) fn grow(
     ensures next { OnOk result ((h : IsPart tree.now next.old depth) → next.new ≡ next.old + length h.here) }
     ensures placed { IfOk result (λ node. ArePlaced next.old next.new node) }
 {
-    let _ = tree.leaves(); // a model's invariant: at most 65,536 leaves
+    let _ = tree.leaves(); // for proofs: at most 65,536 leaves
     let place = *next;
     let cube = tree.cube(place);
     if cube.len() == depth {
@@ -90,7 +90,8 @@ fn are_closed_below(left: &Node, right: &Node) -> bool
     is_closed_below(left) && is_closed_below(right)
 }
 
-/// Returns the disjunction. Both arguments are evaluated, unlike those of `||`.
+/// Returns the disjunction. Unlike `||`, it evaluates both arguments, so that both branches of a
+/// fork are searched.
 fn either(one: bool, other: bool) -> bool
     ensures { result ≡ (one || other) }
 {
@@ -122,8 +123,9 @@ fn close_leaf(
     Ok(true)
 }
 
-/// Closes each open leaf of a subtree that a lemma closes, removes its index from `unclosed`, and tells whether there was one. `at` is the
-/// range of the subtree's leaf indices.
+/// Closes each open leaf of a subtree that a lemma closes, removes its index from `unclosed`, and
+/// tells whether there was one. `at` is the range of the subtree's leaf indices: a subtree without
+/// a found leaf is not entered.
 pub(crate) fn close_below(
     alloc: Global,
     node: &mut Node,

@@ -10,15 +10,16 @@ use crate::tree_walk::TreeWalk;
 use dimacs::{Formula, Lit, Var, greatest_in};
 use std::alloc::{AllocError, Global};
 
-/// Whether no literal of the cube has the variable.
+/// Whether the cube has no literal of the variable.
 fn is_free(cube: &[Lit], variable: u32) -> bool
     ensures { IsTrue result ↔ IsFree cube.now variable }
 {
     cube.iter().all(|l| l.var().number() != variable)
 }
 
-/// The variable of a choice, if the cube may be cut on it. The rule chooses no other, but that is checked here, so that no proof rests on
-/// the rule.
+/// The variable of a choice, if a cube may be split on it: it is from 1 to `last`, and has no
+/// literal in the cube. The rule chooses no other variable, but no proof rests on the rule, so it
+/// is tested here. None if the choice is no variable.
 pub(crate) fn checked(choice: Choice, cube: &[Lit], last: u32) -> Option<Var>
     requires { last < 2 ^ 31 }
     ensures { IfSome result (MayBeCut last cube.now) }
@@ -31,8 +32,8 @@ pub(crate) fn checked(choice: Choice, cube: &[Lit], last: u32) -> Option<Var>
     }
 }
 
-/// The variable that the lookahead chooses for a cube, from 1 to the greatest of the clauses; None if propagation closes the cube, or
-/// leaves no clause open.
+/// Chooses the branching variable of a cube by lookahead, from 1 to the greatest of the clauses;
+/// None if propagation refutes the cube, or leaves no clause open.
 pub fn choose(alloc: Global, formula: &Formula, cube: &[Lit]) -> Result<Option<Var>, AllocError>
     ensures { IfOk result (λ found. IfSome found (MayBeCut (greatest_in formula.now.clauses) cube.now)) }
 {

@@ -1,9 +1,9 @@
-//! The preselection: which variables the lookahead at a node tries.
+//! The preselection: the variables that the lookahead at a node tries.
 
 use crate::counting_propagator::CountingPropagator;
 use std::alloc::{AllocError, Global};
 
-/// The most candidates of a node.
+/// The greatest number of candidates of a node.
 const CANDIDATES: usize = 64;
 
 /// A variable with the sum of the weights of its open clauses.
@@ -13,8 +13,9 @@ struct Ranked {
     sum: u64,
 }
 
-/// The candidates by falling sum, and of equal sums the lower variable first.
+/// The candidates of a node, by falling sum, and of equal sums the lower variable first.
 pub(crate) struct Candidates {
+    /// At most `CANDIDATES` between two calls.
     ranked: Vec<Ranked>,
 }
 
@@ -25,18 +26,19 @@ impl Drop for Candidates {
 }
 
 impl Candidates {
-    /// None, with room for `CANDIDATES`.
+    /// An empty list of candidates, with room for `CANDIDATES`.
     pub(crate) fn new(alloc: Global) -> Result<Candidates, AllocError> {
         Ok(Candidates {
             ranked: Vec::with_capacity(alloc, CANDIDATES + 1)?,
         })
     }
 
+    /// The number of candidates.
     pub(crate) fn len(&self) -> usize {
         self.ranked.len()
     }
 
-    /// The variable at this place, from 0.
+    /// The variable at index i, from 0; 0 if there is none.
     pub(crate) fn at(&self, i: usize) -> u32 {
         match self.ranked.get(i) {
             Some(ranked) => ranked.variable,
@@ -44,7 +46,7 @@ impl Candidates {
         }
     }
 
-    /// Whether there is no room for a variable of this sum: `CANDIDATES` others come before it.
+    /// Whether a variable of this sum has no room in the list: `CANDIDATES` others come before it.
     fn is_below_all(&self, sum: u64) -> bool {
         match self.ranked.get(CANDIDATES - 1) {
             Some(last) => last.sum >= sum,
@@ -52,7 +54,7 @@ impl Candidates {
         }
     }
 
-    /// Inserts a variable after those whose sum is not smaller.
+    /// Inserts a variable after those whose sum is not smaller, and drops the last one if there are too many.
     fn insert(&mut self, ranked: Ranked) -> Result<(), AllocError> {
         let mut place = self.ranked.len();
         while place > 0 && self.ranked[place - 1].sum < ranked.sum {
@@ -63,7 +65,8 @@ impl Candidates {
         Ok(())
     }
 
-    /// Keeps those whose sum is at least half of the greatest.
+    /// Drops the candidates whose sum is below half of the greatest, since a lookahead at them
+    /// costs as much and promises less.
     fn keep_half(&mut self) {
         let Some(&first) = self.ranked.first() else {
             return;
@@ -79,7 +82,8 @@ impl Candidates {
         self.ranked.truncate(len);
     }
 
-    /// Makes the list of the free variables that stand in open clauses.
+    /// Overwrites the list with the candidates at the propagator's node: of the free variables that occur in open clauses the ones of the
+    /// greatest sums.
     pub(crate) fn rank(&mut self, propagator: &CountingPropagator) -> Result<(), AllocError> {
         self.ranked.clear();
         for below in 0..propagator.vars() {
@@ -94,12 +98,12 @@ impl Candidates {
     }
 }
 
-/// Whether a variable is free and stands in an open clause.
+/// Whether a variable is free and occurs in an open clause.
 fn is_candidate(propagator: &CountingPropagator, variable: u32) -> bool {
     propagator.weight_of(variable) > 0 && propagator.is_free(variable.wrapping_mul(2))
 }
 
-/// The lowest free variable that stands in an open clause.
+/// The lowest free variable that occurs in an open clause; None if there is none.
 pub(crate) fn lowest(propagator: &CountingPropagator) -> Option<u32> {
     for below in 0..propagator.vars() {
         let variable = below + 1;

@@ -1,23 +1,23 @@
-//! The counters of each clause under the literals that are true.
+//! The state of each clause under the literals that are true: its counters.
 
 ghost use Rattle.std.specs.Prelude.{◌<◌, length, All};
 
 use crate::trail::Trail;
 
-/// The counters of a clause.
+/// The state of a clause. A clause is open if none of its literals is true.
 #[derive(Clone, Copy)]
 pub(crate) struct ClauseState {
-    /// How many of its literals are true.
+    /// The number of its literals that are true.
     pub satisfied: u32,
-    /// How many of its literals are not false.
+    /// The number of its literals that are not false.
     pub open: u32,
-    /// The exclusive or of the codes of the literals that are not false: if there is one, its code.
+    /// The exclusive or of the codes of the literals that are not false: if there is only one, its code.
     pub rest: u32,
-    /// The number of the last lookahead that has counted the clause.
+    /// The number of the last lookahead that counted the clause.
     pub stamp: u32,
 }
 
-/// The weight of an open clause, by how many of its literals are not false: a quarter for each literal more.
+/// The weight of an open clause of which this many literals are not false: a quarter for each literal more.
 fn weight(open: u32) -> u64 {
     match open {
         0 | 1 => 0,
@@ -31,7 +31,7 @@ fn weight(open: u32) -> u64 {
 }
 
 impl ClauseState {
-    /// The weight of the clause; 0 if it is satisfied.
+    /// The weight of the clause; 0 if it has a true literal.
     pub(crate) fn weight(self) -> u64 {
         if self.satisfied > 0 {
             return 0;
@@ -40,7 +40,7 @@ impl ClauseState {
     }
 }
 
-/// Updates the clauses with a literal that became true.
+/// Counts one more true literal in these clauses, which have the literal that became true.
 pub(crate) fn satisfy(states: &mut [ClauseState], clauses: &[u32])
     requires { All (λ c. c < length states.old) clauses.now }
 {
@@ -50,7 +50,7 @@ pub(crate) fn satisfy(states: &mut [ClauseState], clauses: &[u32])
     }
 }
 
-/// Undoes `satisfy`.
+/// Undoes `satisfy` for these clauses at a backtrack: one true literal less.
 pub(crate) fn release(states: &mut [ClauseState], clauses: &[u32])
     requires { All (λ c. c < length states.old) clauses.now }
 {
@@ -60,8 +60,10 @@ pub(crate) fn release(states: &mut [ClauseState], clauses: &[u32])
     }
 }
 
-/// Updates the clauses with a literal that became false; true if one of them became false. The last literal of a unit clause is put on
-/// the trail.
+/// Counts one literal less that is not false in these clauses, which have the literal of this code
+/// that became false. `rest` is the XOR of the codes that are left, so the last one is read off
+/// without a search: a unit clause's literal goes on the trail. Returns true if a clause became
+/// false.
 pub(crate) fn shorten(
     states: &mut [ClauseState],
     clauses: &[u32],
@@ -86,7 +88,7 @@ pub(crate) fn shorten(
     conflict
 }
 
-/// Undoes `shorten`, except for the trail.
+/// Undoes `shorten` for these clauses at a backtrack; what it pushed on the trail stays there.
 pub(crate) fn lengthen(states: &mut [ClauseState], clauses: &[u32], code: u32)
     requires { All (λ c. c < length states.old) clauses.now }
 {
@@ -97,7 +99,8 @@ pub(crate) fn lengthen(states: &mut [ClauseState], clauses: &[u32], code: u32)
     }
 }
 
-/// The sum of the weights of those clauses that do not have this stamp yet; now they have it.
+/// Returns the sum of the weights of these clauses, except those that this lookahead has weighed
+/// already; they have its number as their stamp.
 pub(crate) fn weigh_once(states: &mut [ClauseState], clauses: &[u32], lookahead: u32) -> u64
     requires { All (λ c. c < length states.old) clauses.now }
 {

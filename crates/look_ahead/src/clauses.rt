@@ -10,9 +10,9 @@ use std::alloc::{AllocError, Global};
 pub(crate) struct Clauses {
     /// The codes of all clauses, one clause after the other.
     codes: Vec<u32>,
-    /// By clause, where its codes begin; and after the last clause the number of codes.
+    /// By clause, the index of its first code; and after the last clause the number of codes.
     starts: Vec<usize>,
-    ghost few: { vec_len starts ≤ 4000001 },
+    ghost few: { vec_len starts ≤ 100000000 },
 }
 
 impl Drop for Clauses {
@@ -24,7 +24,8 @@ impl Drop for Clauses {
     }
 }
 
-/// Appends the codes of a clause, each once; false if the clause is a tautology. `last` says by code which clause had it last.
+/// Appends the codes of a clause, each once. Returns false if the clause is a tautology, of which
+/// some codes may be appended. `last` has by code the number of the last clause that had it.
 fn append(
     codes: &mut Vec<u32>,
     last: &mut [u32],
@@ -47,7 +48,7 @@ fn append(
 }
 
 impl Clauses {
-    /// The clauses of a formula.
+    /// The clauses of a formula, without repeated literals and tautologies, in their order.
     pub(crate) fn of(alloc: Global, formula: &Formula) -> Result<Clauses, AllocError> {
         let rows = formula.vars() as usize + 1;
         let mut last = vec![in alloc; 0; 2 * rows]?;
@@ -64,9 +65,9 @@ impl Clauses {
         Ok(Clauses { codes, starts })
     }
 
-    /// How many clauses there are.
+    /// The number of clauses.
     pub(crate) fn len(&self) -> usize
-        ensures { result ≤ 4000000 }
+        ensures { result ≤ 99999999 }
     {
         self.starts.len().saturating_sub(1)
     }
@@ -76,7 +77,7 @@ impl Clauses {
         &self.codes
     }
 
-    /// The codes of the clause of this number, from 0.
+    /// The codes of the clause of this number, from 0; none if there is no such clause.
     pub(crate) fn clause(&self, i: usize) -> &[u32] {
         let (Some(&from), Some(&to)) = (self.starts.get(i), self.starts.get(i.wrapping_add(1)))
         else {

@@ -11,10 +11,10 @@ use crate::variable_weights::VariableWeights;
 use dimacs::Formula;
 use std::alloc::{AllocError, Global};
 
-/// The most literal occurrences that the lookahead at one node visits.
+/// The limit of literal occurrences that the lookahead at one node visits.
 pub(crate) const VISIT_LIMIT: u64 = 4_000_000;
 
-/// How propagation ends.
+/// The end of a propagation.
 #[derive(Clone, Copy, PartialEq, Eq)]
 pub(crate) enum Outcome {
     /// Each clause is satisfied, or has two literals or more that are not false.
@@ -25,17 +25,21 @@ pub(crate) enum Outcome {
     LimitReached,
 }
 
-/// The clauses under the literals of a trail.
+/// A propagator over the clauses of a formula, under the literals of a trail.
 pub(crate) struct CountingPropagator {
+    /// The number of variables.
     vars: u32,
     clauses: Clauses,
     occurrences: Occurrences,
+    /// By clause, its counters; and after the last clause at least one state of no clause.
     states: Vec<ClauseState>,
+    /// The literals that are true.
     trail: Trail,
+    /// By variable, the sum of the weights of its open clauses, as they were counted last.
     weights: VariableWeights,
-    /// How many literal occurrences were visited since `begin_visits`.
+    /// The number of literal occurrences that were visited since `begin_visits`.
     visits: u64,
-    /// How many times `reduced_weight` was called: its stamp on the clauses that it has counted.
+    /// The number of calls of `reduced_weight` so far: the stamp of the present one.
     looks: u32,
     ghost sized: { occurrences.bound ≤ vec_len states },
 }
@@ -55,7 +59,8 @@ impl Drop for CountingPropagator {
     }
 }
 
-/// The state of a clause if no literal is true.
+/// The state of a clause with these codes if no literal is true: `open` counts its literals, and
+/// `rest` is the XOR of their codes.
 fn initial_state(codes: &[u32]) -> ClauseState {
     let mut state = ClauseState {
         satisfied: 0,
@@ -70,7 +75,7 @@ fn initial_state(codes: &[u32]) -> ClauseState {
     state
 }
 
-/// The state of each clause if no literal is true, and after them one that is satisfied and belongs to no clause.
+/// The states of the clauses if no literal is true, and after them, up to `rows`, states that are satisfied and belong to no clause.
 fn initial_states(
     alloc: Global,
     clauses: &Clauses,
@@ -94,7 +99,7 @@ fn initial_states(
 }
 
 impl CountingPropagator {
-    /// The clauses of a formula, with an empty trail and all weights 0: `count_all` counts them.
+    /// A propagator over a formula's clauses, with an empty trail. All weights are 0 until `count_all` counts them.
     pub(crate) fn new(alloc: Global, formula: &Formula) -> Result<CountingPropagator, AllocError> {
         let vars = formula.vars();
         let clauses = Clauses::of(alloc, formula)?;
@@ -113,7 +118,7 @@ impl CountingPropagator {
         })
     }
 
-    /// Propagates the unit clauses of the formula; false if that meets a conflict.
+    /// Propagates the unit clauses of the formula. Returns false if that meets a conflict.
     pub(crate) fn propagate_units(&mut self) -> bool {
         for state in &self.states {
             if state.satisfied == 0 && state.open == 0 {
@@ -126,7 +131,7 @@ impl CountingPropagator {
         self.propagate(u64::MAX) == Outcome::Fixpoint
     }
 
-    /// Counts the weights of all clauses.
+    /// Counts the weights of all clauses, for each variable.
     pub(crate) fn count_all(&mut self) {
         self.weights.count_all(&self.clauses, &self.states);
     }
@@ -136,6 +141,7 @@ impl CountingPropagator {
         self.trail.len()
     }
 
+    /// The number of variables.
     pub(crate) fn vars(&self) -> u32 {
         self.vars
     }
@@ -145,17 +151,19 @@ impl CountingPropagator {
         self.trail.is_free(code)
     }
 
-    /// The sum of the weights of the open clauses with this variable, as counted last.
+    /// The sum of the weights of the open clauses with this variable, as they were counted last.
     pub(crate) fn weight_of(&self, variable: u32) -> u64 {
         self.weights.of(variable)
     }
 
-    /// Sets the count of visits to 0.
+    /// Sets the count of visited occurrences to 0, before the lookahead at a node, whose work it
+    /// limits.
     pub(crate) fn begin_visits(&mut self) {
         self.visits = 0;
     }
 
-    /// Updates the states of the clauses with a literal that became true, or with its negation; true if one of them became false.
+    /// Updates the counters of the clauses with a literal that became true, and of those with its
+    /// negation, and pushes the units that this makes. Returns true if a clause became false.
     fn assign(&mut self, code: u32) -> bool {
         let negation = code ^ 1;
         let with = self.occurrences.of_code(code);
@@ -170,7 +178,7 @@ impl CountingPropagator {
         conflict
     }
 
-    /// Undoes `assign`.
+    /// Undoes `assign` of the literal of this code at a backtrack.
     fn unassign(&mut self, code: u32) {
         let negation = code ^ 1;
         let with = self.occurrences.of_code(code);
@@ -184,7 +192,8 @@ impl CountingPropagator {
             .saturating_add(without.len() as u64);
     }
 
-    /// Propagates the trail, until `limit` occurrences were visited.
+    /// Propagates the literals of the trail that were not propagated yet, until a clause is false,
+    /// none is left, or `limit` occurrences were visited.
     fn propagate(&mut self, limit: u64) -> Outcome {
         for _ in 0..self.trail.rows() {
             if self.visits >= limit {
@@ -200,7 +209,8 @@ impl CountingPropagator {
         Outcome::Fixpoint
     }
 
-    /// Makes a literal true and propagates it, until `limit` occurrences were visited.
+    /// Makes the literal of this code true and propagates it, until `limit` occurrences were visited. It is a conflict if its negation is
+    /// true.
     pub(crate) fn assume(&mut self, code: u32, limit: u64) -> Outcome {
         if self.trail.is_true(code ^ 1) {
             return Outcome::Conflict;
@@ -209,7 +219,8 @@ impl CountingPropagator {
         self.propagate(limit)
     }
 
-    /// The sum of the weights of the open clauses that the literals from this place of the trail on have reduced. A clause counts once.
+    /// Measures a lookahead: adds up the weights of the open clauses that the trail's literals from
+    /// index `from` on have shortened. A clause counts once.
     pub(crate) fn reduced_weight(&mut self, from: usize) -> u64 {
         self.looks = self.looks.wrapping_add(1);
         let mut sum: u64 = 0;
@@ -221,7 +232,8 @@ impl CountingPropagator {
         sum
     }
 
-    /// Cuts the trail to this length. The weights stay as they were counted.
+    /// Backtracks: cuts the trail to the length `to`, and undoes the counters of the propagated
+    /// literals. The weights stay as they were counted, since a lookahead does not change them.
     pub(crate) fn undo(&mut self, to: usize) {
         let head = self.trail.head();
         for i in to..head {
@@ -231,7 +243,8 @@ impl CountingPropagator {
         self.trail.truncate(to);
     }
 
-    /// Counts the weights of those clauses again that have a variable of the trail's places `from..to`.
+    /// Counts the weights of the clauses again that have a variable of the trail at the indices
+    /// `from..to`, after these literals were set or undone.
     fn count_again(&mut self, from: usize, to: usize) {
         for i in from..to {
             let code = self.trail.at(i);
@@ -243,7 +256,8 @@ impl CountingPropagator {
         }
     }
 
-    /// Makes a literal true, propagates it and counts the weights again; false if that meets a conflict.
+    /// Goes down to a node: makes the literal of this code true, propagates it and counts the
+    /// weights of the changed clauses. Returns false if that meets a conflict.
     pub(crate) fn enter(&mut self, code: u32) -> bool {
         let from = self.trail.len();
         let outcome = self.assume(code, u64::MAX);
@@ -252,14 +266,15 @@ impl CountingPropagator {
         outcome == Outcome::Fixpoint
     }
 
-    /// Cuts the trail to this length, and counts the weights again.
+    /// Goes back up to an earlier node: cuts the trail to the length `to`, and counts the weights
+    /// of the changed clauses.
     pub(crate) fn leave(&mut self, to: usize) {
         let len = self.trail.len();
         self.undo(to);
         self.count_again(to, len);
     }
 
-    /// Whether propagating a literal meets a conflict (failed literal).
+    /// Whether propagating the literal of this code meets a conflict (failed literal). The trail is unchanged afterwards.
     pub(crate) fn is_failed_literal(&mut self, code: u32) -> bool {
         let from = self.trail.len();
         let outcome = self.assume(code, u64::MAX);

@@ -1,16 +1,17 @@
-//! The lookahead at a node: which variable to branch on.
+//! The lookahead at a node: it chooses the variable to branch on.
 
 use crate::candidates::{Candidates, lowest};
 use crate::counting_propagator::{CountingPropagator, Outcome, VISIT_LIMIT};
 use std::alloc::{AllocError, Global};
 
-/// The most rounds over the candidates at one node. A round that finds a failed literal changes the node, so another round follows.
+/// The greatest number of rounds over the candidates at one node. A round that finds a failed literal changes the node, so another round
+/// follows.
 const ROUNDS: u32 = 8;
 
-/// The cap of a score.
+/// The greatest score.
 const SCORE_CAP: u64 = 1 << 62;
 
-/// What to do with a node.
+/// What is to be done with a node.
 #[derive(Clone, Copy, PartialEq, Eq)]
 pub(crate) enum Choice {
     /// Nothing: propagation refutes it.
@@ -21,7 +22,7 @@ pub(crate) enum Choice {
     Branch(u32),
 }
 
-/// What propagating a literal has shown.
+/// What the propagation of a literal has shown.
 #[derive(Clone, Copy)]
 enum Look {
     /// A failed literal.
@@ -32,7 +33,7 @@ enum Look {
     LimitReached,
 }
 
-/// How a round ends.
+/// The end of a round over the candidates.
 enum Round {
     /// There is no candidate.
     Empty,
@@ -51,7 +52,9 @@ struct Best {
     score: u64,
 }
 
-/// The score of a variable, by the weights of the clauses that its two literals reduce.
+/// The score of a variable, from the weights of the clauses that its two literals shorten: 1024
+/// times their product, which favours variables whose both branches shrink, and their sum, which
+/// breaks ties at 0.
 fn score(positive: u64, negative: u64) -> u64 {
     positive
         .saturating_mul(negative)
@@ -61,7 +64,7 @@ fn score(positive: u64, negative: u64) -> u64 {
         .min(SCORE_CAP)
 }
 
-/// The better one of the best so far and a later candidate. Of equal scores the earlier one wins.
+/// The better of the best candidate so far and a later one. Of equal scores the earlier one wins.
 fn better(best: Option<Best>, next: Best) -> Best {
     match best {
         Some(best) if next.score <= best.score => best,
@@ -74,7 +77,7 @@ fn positive(variable: u32) -> u32 {
     variable.wrapping_mul(2)
 }
 
-/// The propagator at a node, and the candidates there.
+/// The propagator at a node, and the list of candidates there.
 pub(crate) struct Lookahead {
     pub propagator: CountingPropagator,
     candidates: Candidates,
@@ -89,7 +92,8 @@ impl Drop for Lookahead {
     }
 }
 
-/// Propagates a literal, weighs what it reduces, and undoes it.
+/// Looks ahead at the literal of this code: propagates it, weighs the clauses that it shortens, and
+/// undoes it.
 fn look_along(propagator: &mut CountingPropagator, code: u32) -> Look {
     let from = propagator.len();
     let found = match propagator.assume(code, VISIT_LIMIT) {
@@ -102,6 +106,7 @@ fn look_along(propagator: &mut CountingPropagator, code: u32) -> Look {
 }
 
 impl Lookahead {
+    /// A lookahead over a propagator, with an empty list of candidates.
     pub(crate) fn new(
         alloc: Global,
         propagator: CountingPropagator,
@@ -113,7 +118,9 @@ impl Lookahead {
         })
     }
 
-    /// Looks ahead at each candidate once.
+    /// Looks ahead at both literals of each candidate once, and keeps the best score. The negation
+    /// of each failed literal is propagated, so that the node changes and another round has to
+    /// follow.
     fn round(&mut self) -> Round {
         let mut best = None;
         let mut is_forced = false;
@@ -151,7 +158,8 @@ impl Lookahead {
         }
     }
 
-    /// The best variable if it is still free, or else another one.
+    /// The variable of `best` if it is still free, since a failed literal may have assigned it, and
+    /// else `other`.
     fn free_or(&self, best: Option<Best>, other: u32) -> u32 {
         match best {
             Some(best) if self.propagator.is_free(positive(best.variable)) => best.variable,
@@ -159,7 +167,7 @@ impl Lookahead {
         }
     }
 
-    /// Goes through the candidates until a round finds no failed literal, at most `ROUNDS` times.
+    /// Ranks the candidates and goes through them, until a round finds no failed literal, at most `ROUNDS` times.
     fn rounds(&mut self) -> Result<Choice, AllocError> {
         let mut last = None;
         for _ in 0..ROUNDS {
@@ -182,7 +190,8 @@ impl Lookahead {
         })
     }
 
-    /// What to do with the node at which the propagator stands. Its trail is afterwards as before.
+    /// Chooses what is to be done with the node of the propagator: to branch on a variable, or
+    /// nothing. The trail is afterwards as before.
     pub(crate) fn choose(&mut self) -> Result<Choice, AllocError> {
         let from = self.propagator.len();
         self.propagator.begin_visits();

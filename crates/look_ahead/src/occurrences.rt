@@ -1,16 +1,17 @@
-//! The occurrence lists: in which clauses each literal stands.
+//! The occurrence lists: for each literal the clauses in which it occurs.
 
 ghost use Rattle.std.specs.Prelude.{ℕ, ◌+◌, ◌<◌, ◌≤◌, length, All, IfOk};
 
 use crate::clauses::Clauses;
 use std::alloc::{AllocError, Global};
 
-/// For each literal the numbers of the clauses in which it stands, in one vector (made by a counting sort).
+/// For each literal the numbers of the clauses in which it occurs, in one vector (made by a counting sort).
 pub(crate) struct Occurrences {
+    /// The lists, one after the other, in the order of codes.
     clauses: Vec<u32>,
-    /// By code, where the literal's list begins; and after the last literal the length of the vector.
+    /// By code, the index where the literal's list begins; and after the last literal the length of the vector.
     starts: Vec<usize>,
-    /// More than the number of each clause.
+    /// A bound above the number of each clause.
     pub bound: usize,
     ghost below: { All (λ c. c < bound) clauses.items },
 }
@@ -25,7 +26,8 @@ impl Drop for Occurrences {
     }
 }
 
-/// Leaves by code how many of the codes are at most that one: where its list ends.
+/// The first pass of a counting sort by code: `starts`, all 0 before, gets the index where the list
+/// of each code ends.
 fn ends(starts: &mut [usize], codes: &[u32]) {
     for &code in codes {
         if let Some(place) = starts.get_mut(code as usize) {
@@ -39,7 +41,8 @@ fn ends(starts: &mut [usize], codes: &[u32]) {
     }
 }
 
-/// Writes the number of a clause at a place.
+/// Writes the number of a clause at an index; nothing changes if the index is past the end, which
+/// no call needs but no proof excludes.
 fn put(clauses: &mut [u32], at: usize, number: u32)
     requires { All (λ c. c ≤ number) clauses.old }
     ensures { All (λ c. c ≤ number) clauses.new }
@@ -49,7 +52,8 @@ fn put(clauses: &mut [u32], at: usize, number: u32)
     }
 }
 
-/// Writes the number of a clause before what the lists of its literals have so far.
+/// The second pass of the counting sort: writes the number of a clause with these codes into the
+/// list of each, before what the list has so far.
 fn put_clause(clauses: &mut [u32], starts: &mut [usize], codes: &[u32], number: u32)
     requires { All (λ c. c ≤ number) clauses.old }
     ensures { All (λ c. c ≤ number) clauses.new }
@@ -63,14 +67,14 @@ fn put_clause(clauses: &mut [u32], starts: &mut [usize], codes: &[u32], number: 
 }
 
 impl Occurrences {
-    /// The occurrence lists of clauses whose codes are below `codes`.
+    /// The occurrence lists of these clauses, whose codes are below `codes`.
     pub(crate) fn of(
         alloc: Global,
         clauses: &Clauses,
         codes: usize,
     ) -> Result<Occurrences, AllocError>
-        requires { codes ≤ 4000000 }
-        ensures { IfOk result (λ p. p.bound ≤ 4000001) }
+        requires { codes ≤ 200000000 }
+        ensures { IfOk result (λ p. p.bound ≤ 100000000) }
     {
         let mut starts = vec![in alloc; 0; codes + 1]?;
         ends(&mut starts, clauses.codes());
@@ -86,7 +90,7 @@ impl Occurrences {
         })
     }
 
-    /// The numbers of the clauses with the literal of this code.
+    /// The numbers of the clauses that have the literal of this code; none if the code is unknown.
     pub(crate) fn of_code(&self, code: u32) -> &[u32]
         ensures { All (λ c. c < self.now.bound) result.now }
     {

@@ -12,22 +12,22 @@ use dimacs::{Formula, Lit, Var, greatest_in};
 use icnf::Tree;
 use std::alloc::{AllocError, Global};
 
-/// The most leaves of a tree.
+/// The greatest number of leaves of a tree.
 const LEAVES: usize = 65_536;
 
-/// The most literals of a cube.
+/// The greatest number of literals of a cube.
 const LITERALS: usize = 64;
 
-/// The leaves of the present level, and those of the next one.
+/// The frontier of a tree: the leaves of the present level, and those of the next one.
 struct Frontier {
     walk: TreeWalk,
-    /// By leaf of the present level, whether propagation has refuted it when it was made.
+    /// By leaf of the present level, from left to right, whether propagation refuted it when it was made.
     refuted: Vec<bool>,
-    /// How many leaves of the present level were taken.
+    /// The number of leaves of the present level that were taken.
     taken: usize,
-    /// The same as `refuted`, of the next level.
+    /// By leaf of the next level, from left to right, whether propagation refuted it when it was made.
     below: Vec<bool>,
-    /// How many leaves of the tree are not refuted.
+    /// The number of leaves of the tree that are not refuted.
     open: u32,
 }
 
@@ -44,7 +44,7 @@ impl Drop for Frontier {
 }
 
 impl Frontier {
-    /// The root alone, as the next level.
+    /// Makes the frontier of a tree of one leaf: its next level is the root alone.
     fn begin(alloc: Global, formula: &Formula) -> Result<Frontier, AllocError> {
         let walk = TreeWalk::begin(alloc, formula)?;
         let refuted = walk.is_refuted();
@@ -57,14 +57,15 @@ impl Frontier {
         })
     }
 
-    /// Goes to the next level.
+    /// Goes down one level: the leaves that were made become the present level.
     fn descend(&mut self) {
         std::mem::swap(&mut self.refuted, &mut self.below);
         self.below.clear();
         self.taken = 0;
     }
 
-    /// What to do with the next leaf of the level, which has this cube.
+    /// Takes the next leaf of the level, which has this cube, and chooses what is to be done with
+    /// it. A leaf that was refuted when it was made is not looked at again.
     fn take(&mut self, cube: &[Lit]) -> Result<Choice, AllocError> {
         let is_refuted = self.refuted.get(self.taken) == Some(&true);
         self.taken = self.taken.wrapping_add(1);
@@ -78,7 +79,8 @@ impl Frontier {
         Ok(choice)
     }
 
-    /// Notes the new leaf that has one literal more than the leaf that was taken last.
+    /// Adds a leaf to the next level: the leaf that was taken last, with this literal more.
+    /// Propagation tells whether it is refuted at once; only others count as open.
     fn make(&mut self, literal: Lit) -> Result<(), AllocError> {
         let refuted = self.walk.is_failed_literal(literal);
         self.below.push(refuted)?;
@@ -88,7 +90,8 @@ impl Frontier {
         Ok(())
     }
 
-    /// Notes the two new leaves in the place of the leaf that was taken last: first the one with the positive literal.
+    /// Splits the leaf that was taken last on a variable: adds its two branches to the next level,
+    /// first the one with the positive literal.
     fn cut(&mut self, var: Var) -> Result<(), AllocError> {
         self.open = self.open.wrapping_sub(1);
         self.make(Lit::positive(var))?;
@@ -96,7 +99,8 @@ impl Frontier {
     }
 }
 
-/// Takes a leaf, and cuts it if the lookahead has a variable for it; tells whether it was cut.
+/// Takes a leaf, and splits it if the lookahead has a variable for it. Returns whether it was
+/// split.
 fn cut_leaf(
     tree: &mut Tree,
     frontier: &mut Frontier,
@@ -122,7 +126,8 @@ fn cut_leaf(
     Ok(true)
 }
 
-/// Takes the leaves of `depth` literals from left to right, until `leaves` leaves are open.
+/// Splits the leaves of `depth` literals from left to right, until `leaves` leaves are not refuted,
+/// or the tree has as many leaves as it may have.
 fn cut_level(
     tree: &mut Tree,
     frontier: &mut Frontier,
@@ -148,8 +153,9 @@ fn cut_level(
     Ok(())
 }
 
-/// A splitting tree with about `leaves` leaves that propagation does not refute. It grows breadth first: a leaf is cut on the variable that
-/// `choose` answers for its cube, if there is one, until there are `leaves` such leaves, or 65,536 leaves in all.
+/// Grows a splitting tree with about `leaves` leaves that propagation does not refute. It grows
+/// breadth first: a leaf is split on the variable that the lookahead chooses for its cube, if there
+/// is one, until there are `leaves` such leaves, or 65,536 leaves in all.
 pub fn grow_tree(alloc: Global, formula: &Formula, leaves: u32) -> Result<Tree, AllocError>
     ensures grown { IfOk result (IsGrown (greatest_in formula.now.clauses)) }
     ensures tree { IfOk result IsTree }

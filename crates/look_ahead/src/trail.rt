@@ -2,11 +2,14 @@
 
 use std::alloc::{AllocError, Global};
 
-/// The codes of the literals that are true, in order. Each variable stands there once, so there is room for all; no proof rests on it.
+/// The codes of the literals that are true, in the order in which they became true. Each variable stands there at most once, so there is
+/// room for all; no proof rests on this.
 pub(crate) struct Trail {
+    /// The first `len` are the trail.
     codes: Vec<u32>,
+    /// The number of literals that are true.
     len: usize,
-    /// How many of them are propagated: `CountingPropagator::assign` was called for them.
+    /// The number of literals that are propagated: `CountingPropagator::assign` was called for them.
     head: usize,
     /// By code, whether the literal is true.
     truths: Vec<bool>,
@@ -24,7 +27,7 @@ impl Drop for Trail {
 }
 
 impl Trail {
-    /// An empty trail. There is a row for each variable, and one for 0.
+    /// An empty trail, for the variables from 1 to `vars`. Its tables have a row for 0 too.
     pub(crate) fn new(alloc: Global, vars: u32) -> Result<Trail, AllocError> {
         let rows = vars as usize + 1;
         Ok(Trail {
@@ -35,30 +38,32 @@ impl Trail {
         })
     }
 
+    /// The number of literals that are true.
     pub(crate) fn len(&self) -> usize {
         self.len
     }
 
-    /// The most literals that it can hold.
+    /// The greatest number of literals that the trail can hold.
     pub(crate) fn rows(&self) -> usize {
         self.codes.len()
     }
 
-    /// How many literals are propagated.
+    /// The number of literals that are propagated.
     pub(crate) fn head(&self) -> usize {
         self.head
     }
 
+    /// Whether the literal of this code is true.
     pub(crate) fn is_true(&self, code: u32) -> bool {
         self.truths.get(code as usize) == Some(&true)
     }
 
-    /// Whether neither the literal nor its negation is true.
+    /// Whether neither the literal of this code nor its negation is true.
     pub(crate) fn is_free(&self, code: u32) -> bool {
         !self.is_true(code) && !self.is_true(code ^ 1)
     }
 
-    /// The code at this place of the trail. After `truncate` the old code stands there until another one comes.
+    /// The code at index i of the trail; 0 past its room. After `truncate` the old code stays there until another one is pushed.
     pub(crate) fn at(&self, i: usize) -> u32 {
         match self.codes.get(i) {
             Some(&code) => code,
@@ -66,13 +71,15 @@ impl Trail {
         }
     }
 
+    /// Sets whether the literal of this code is true; nothing changes if the table has no such
+    /// code.
     fn set(&mut self, code: u32, truth: bool) {
         if let Some(place) = self.truths.get_mut(code as usize) {
             *place = truth;
         }
     }
 
-    /// Makes a literal true, if its variable is free.
+    /// Pushes the literal of this code, which becomes true; nothing changes if its variable is not free.
     pub(crate) fn push(&mut self, code: u32) {
         if !self.is_free(code) {
             return;
@@ -84,7 +91,7 @@ impl Trail {
         }
     }
 
-    /// The next literal to propagate.
+    /// Takes the next literal to propagate; None if all are propagated.
     pub(crate) fn next(&mut self) -> Option<u32> {
         if self.head >= self.len {
             return None;
@@ -94,7 +101,7 @@ impl Trail {
         Some(code)
     }
 
-    /// Cuts the trail to this length.
+    /// Cuts the trail to the length `len`. The literals after that are no longer true.
     pub(crate) fn truncate(&mut self, len: usize) {
         for i in len..self.len {
             let code = self.at(i);

@@ -1,4 +1,4 @@
-//! By variable, the sum of the weights of its open clauses, counted as clauses change.
+//! The weight of each variable: the sum of the weights of its open clauses, counted as clauses change.
 
 ghost use Rattle.std.specs.Prelude.{◌<◌, length, All};
 
@@ -6,10 +6,11 @@ use crate::clause_states::ClauseState;
 use crate::clauses::Clauses;
 use std::alloc::{AllocError, Global};
 
-/// By variable, the sum of the weights of the clauses in which it stands.
+/// By variable, the sum of the weights of the clauses in which it occurs.
 pub(crate) struct VariableWeights {
-    /// By clause, its weight in the sums now.
+    /// By clause, its weight in the present sums.
     counted: Vec<u64>,
+    /// By variable, the sum.
     weights: Vec<u64>,
 }
 
@@ -23,7 +24,7 @@ impl Drop for VariableWeights {
 }
 
 impl VariableWeights {
-    /// All weights are 0.
+    /// Weights that are all 0, for the variables from 1 to `vars` and this many clauses.
     pub(crate) fn new(
         alloc: Global,
         vars: u32,
@@ -35,7 +36,7 @@ impl VariableWeights {
         })
     }
 
-    /// The sum of the weights of a variable's clauses.
+    /// The sum of the weights of a variable's clauses; 0 if there is no such variable.
     pub(crate) fn of(&self, variable: u32) -> u64 {
         match self.weights.get(variable as usize) {
             Some(&sum) => sum,
@@ -43,7 +44,8 @@ impl VariableWeights {
         }
     }
 
-    /// Counts a clause by its weight now. Its literals are visited only if the weight has changed.
+    /// Replaces the weight of one clause in the sums of its variables by its present weight. Its
+    /// literals are visited only if the weight has changed.
     fn count(&mut self, clauses: &Clauses, clause: usize, weight: u64) {
         let Some(counted) = self.counted.get_mut(clause) else {
             return;
@@ -60,14 +62,14 @@ impl VariableWeights {
         }
     }
 
-    /// Counts each clause.
+    /// Counts each clause by its present weight.
     pub(crate) fn count_all(&mut self, clauses: &Clauses, states: &[ClauseState]) {
         for (i, state) in states.iter().enumerate() {
             self.count(clauses, i, state.weight());
         }
     }
 
-    /// Counts these clauses again, whose weights may have changed.
+    /// Replaces the weights of the clauses of these numbers, which may have changed.
     pub(crate) fn count_again(
         &mut self,
         clauses: &Clauses,

@@ -1,4 +1,4 @@
-//! The reader of a binary proof that comes in pieces.
+//! The reader of a binary proof that comes in pieces: it delivers each step to a consumer.
 
 ghost use Rattle.std.specs.Prelude.{◌≡◌, ◌≤◌, ℕ, [], ◌∷◌, MatchResult};
 ghost use Rattle.std.specs.Result.{result_err};
@@ -16,7 +16,7 @@ use std::marker::Model;
 /// The greatest variable of a proof, unless the caller gives a limit.
 const MAX_VAR: u32 = 2_000_000;
 
-/// Delivers the complete step, and ends it.
+/// Delivers the step that is complete in `parts`; the next byte begins another one. An `Err` is the consumer's refusal.
 fn hand_on<T: TakesSteps>(
     parts: &mut PartialStep,
     is_deletion: bool,
@@ -36,7 +36,7 @@ fn hand_on<T: TakesSteps>(
     }
 }
 
-/// Takes a byte, and delivers the step that is complete with it.
+/// Reads the next byte, and delivers the step that is complete with it, if any.
 fn take_byte<T: TakesSteps>(
     parts: &mut PartialStep,
     byte: u8,
@@ -55,7 +55,7 @@ fn take_byte<T: TakesSteps>(
     }
 }
 
-/// Takes the bytes of a piece.
+/// Reads the bytes of a piece, and delivers each step that is complete with them. It ends at the first fault.
 fn take_bytes<T: TakesSteps>(
     parts: &mut PartialStep,
     piece: &[u8],
@@ -77,10 +77,11 @@ fn take_bytes<T: TakesSteps>(
     Ok(())
 }
 
-/// Reads a proof that comes in pieces, and delivers its steps to a consumer. It stores no bytes except the incomplete step at the end of
-/// the last piece.
+/// Reads a proof that comes in pieces, and delivers its steps to a consumer. It stores only the incomplete step at the end of the last
+/// piece.
 #[derive(Drop)]
 pub struct BinaryReader {
+    /// The incomplete step, and the limit of the variables.
     parts: PartialStep,
 }
 
@@ -94,7 +95,7 @@ impl Model for BinaryReader {
 }
 
 impl BinaryReader {
-    /// A reader of a proof with variables up to `most`, before the first byte.
+    /// A reader of a proof with variables up to `most` that has read no byte.
     pub fn within(alloc: Global, most: u32) -> BinaryReader
         requires { most ≤ 199999999 }
         ensures { result ≡ BetweenStepsWithin most }
@@ -104,14 +105,15 @@ impl BinaryReader {
         }
     }
 
-    /// A reader of a proof with variables up to 2,000,000, before the first byte.
+    /// A reader of a proof with variables up to 2,000,000 that has read no byte.
     pub fn new(alloc: Global) -> BinaryReader
         ensures { result ≡ BetweenSteps }
     {
         BinaryReader::within(alloc, MAX_VAR)
     }
 
-    /// Takes the next piece of a proof, and delivers each step that is complete now. After an `Err` the reader is of no use.
+    /// Reads the next piece of a proof, and delivers each step that is complete now. An `Err` is the first fault of the bytes, a refusal of
+    /// memory, or the consumer's refusal; after it the reader is of no use.
     pub fn feed<T: TakesSteps>(
         &mut self,
         piece: &[u8],
@@ -125,7 +127,7 @@ impl BinaryReader {
         take_bytes(&mut self.parts, piece, taker)
     }
 
-    /// The end of the proof: `LineNotEnded` if it ends within a step. It takes no memory.
+    /// Answers, at the end of the proof, `LineNotEnded` if it ends within a step. It allocates nothing.
     pub fn finish(&self) -> Result<(), TextFault>
         ensures { at_end self.now ≡ ([], result_err result) }
     {

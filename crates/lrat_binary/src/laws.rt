@@ -11,7 +11,7 @@ pub fn reading_is_spelling()
     ensures only { (bytes : List ℕ) (steps : List Step) → Spells bytes steps → steps_in bytes ≡ (steps, None) }
 {}
 
-/// The same for each limit of the variables below 2^48.
+/// For each limit of the variables below 2^48: steps are read without a fault if and only if the bytes spell them.
 pub fn reading_within_is_spelling()
     ensures found { (most : ℕ) (bytes : List ℕ) (steps : List Step) → steps_within most bytes ≡ (steps, None) → SpellsWithin most bytes steps }
     ensures only { (most : ℕ) (bytes : List ℕ) (steps : List Step) → most < 2 ^ 48 → SpellsWithin most bytes steps → steps_within most bytes ≡ (steps, None) }
@@ -19,5 +19,7 @@ pub fn reading_within_is_spelling()
 
 /// Bytes spell at most one list of steps.
 pub fn a_proof_spells_one_list()
-    ensures { (bytes : List ℕ) (steps others : List Step) → Spells bytes steps → Spells bytes others → steps ≡ others }
+    ensures written { (bytes : List ℕ) (steps others : List Step) → Spells bytes steps → Spells bytes others → steps ≡ others }
+    // the same for each limit of the variables below 2^48
+    ensures within { (most : ℕ) (bytes : List ℕ) (steps others : List Step) → most < 2 ^ 48 → SpellsWithin most bytes steps → SpellsWithin most bytes others → steps ≡ others }
 {}

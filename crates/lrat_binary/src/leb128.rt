@@ -1,21 +1,23 @@
-//! A number in unsigned LEB128 that is read byte by byte.
+//! A number in unsigned LEB128, read byte by byte.
 
 ghost use Rattle.std.specs.Prelude.{◌≡◌, ◌+◌, ◌-◌, ◌*◌, ◌^◌, ◌<◌, ◌≤◌};
 
-/// A prefix of a number: the value of its n bytes, and the weight of the next byte, which is 128^n.
+/// The prefix of a number: its first n bytes.
 #[derive(Clone, Copy)]
 pub(crate) struct Number {
+    /// The sum of the seven low bits of each of the n bytes, byte i (from 0) times 128^i.
     pub(crate) value: u64,
+    /// The weight of the next byte: 128^n.
     pub(crate) weight: u64,
     ghost covered: { value < weight },
     ghost small: { weight < 2 ^ 49 },
 }
 
-/// The weight of the seventh byte, 128^6 = 2^42. A number has seven bytes at most, so a byte of this weight must be the last.
+/// The weight of the seventh byte, 128^6 = 2^42. A number has at most seven bytes, so a byte of this weight must be the last one.
 pub(crate) const LAST_WEIGHT: u64 = 4_398_046_511_104;
 
 impl Number {
-    /// The number before its first byte.
+    /// A number of which no byte has been read.
     pub(crate) fn new() -> Number
         ensures value { result.value ≡ 0 }
         ensures weight { result.weight ≡ 1 }
@@ -26,7 +28,7 @@ impl Number {
         }
     }
 
-    /// The number's value if this byte is its last one.
+    /// Answers the value of the number whose last byte, after this prefix, is `byte`.
     #[inline(always)]
     pub(crate) fn ended(self, byte: u8) -> u64
         requires { byte < 128 }
@@ -35,7 +37,7 @@ impl Number {
         self.value + self.weight * u64::from(byte)
     }
 
-    /// The prefix that is longer by this byte, which is not the last one.
+    /// Answers the prefix that is longer by this byte, which is not the number's last one.
     #[inline(always)]
     pub(crate) fn longer(self, byte: u8) -> Number
         requires more { 128 ≤ byte }

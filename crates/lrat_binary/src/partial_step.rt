@@ -1,4 +1,4 @@
-//! The step that is being read, in vectors that are used again from step to step.
+//! The step that is being read: what its bytes have given so far. Its vectors are used again for the next step.
 
 ghost use Rattle.std.specs.Prelude.{◌≡◌, ◌<◌, ◌≤◌, IfOk, length, if◌then◌else◌};
 ghost use Rattle.dimacs.specs.logic.Literal.{Neg, Pos};
@@ -6,7 +6,7 @@ ghost use Rattle.lrat_text.specs.Steps.{step_of};
 ghost use Rattle.lrat_binary.specs.Parser.{AtId, AtLiterals, AtHints, AtDeleted, BetweenStepsWithin, byte_taken, letter_taken, number_taken, hint_taken, literal_taken, token_of, after_byte};
 ghost use Rattle.lrat_binary.specs.inner.ShortNumber.{SkipsTo};
 ghost use Rattle.lrat_binary.specs.PartialStep.{prefix_of, state_of};
-ghost use Rattle.lrat_binary.specs.inner.ByteTaken.{IsCounted, step_held, Tells};
+ghost use Rattle.lrat_binary.specs.inner.ByteTaken.{IsPositive, step_held, Tells};
 
 use crate::leb128::{LAST_WEIGHT, Number};
 use crate::limit::Limit;
@@ -16,19 +16,20 @@ use dimacs::{Lit, Var};
 use lrat_text::{Groups, StepRef, TextFault};
 use std::alloc::{AllocError, Global};
 
-/// The place of the next number in a step.
+/// The list of a step to which the next number belongs.
 #[derive(Clone, Copy)]
 pub(crate) enum Place {
-    /// It is the number of an addition.
+    /// The number of an addition.
     Id,
+    /// The literals of an addition.
     Literals,
-    /// Hints, and groups of hints.
+    /// The hints and the groups of an addition.
     Hints,
-    /// The numbers of a deletion.
+    /// The clause numbers of a deletion.
     Deleted,
 }
 
-/// What a byte makes of the step that is being read.
+/// Whether a byte completes the step.
 #[derive(Clone, Copy)]
 pub(crate) enum Taken {
     /// The step is not complete.
@@ -39,17 +40,21 @@ pub(crate) enum Taken {
     Deletion,
 }
 
-/// A step, as far as its bytes have come.
+/// A step that is partly read. Between two steps, `place` is `None`, and the other fields except `limit` mean nothing.
 pub(crate) struct PartialStep {
+    /// The greatest variable of the proof.
     pub(crate) limit: Limit,
-    /// The place of the next number; `None` between two steps.
+    /// The list to which the next number belongs; `None` between two steps.
     pub(crate) place: Option<Place>,
-    /// The bytes of that number so far.
+    /// The bytes of the next number so far.
     pub(crate) number: Number,
+    /// The number of an addition, once it has been read.
     pub(crate) id: u64,
+    /// The literals of an addition so far.
     pub(crate) literals: Vec<Lit>,
-    /// The hints of an addition, or the numbers of a deletion.
+    /// The hints of an addition before its groups, or the numbers of a deletion, so far.
     pub(crate) numbers: Vec<u64>,
+    /// The groups of an addition so far.
     pub(crate) groups: Groups,
 }
 
@@ -68,7 +73,7 @@ impl Drop for PartialStep {
     }
 }
 
-/// The literal of a variable's number.
+/// Makes the literal of a variable's number (1 to 199,999,999) and its sign.
 #[inline(always)]
 pub(crate) fn literal_of(number: u64, is_negative: bool) -> Lit
     requires { (1 ≤ number) × (number ≤ 199999999) }
@@ -83,7 +88,7 @@ pub(crate) fn literal_of(number: u64, is_negative: bool) -> Lit
 }
 
 impl PartialStep {
-    /// Before the first step of a proof with variables up to `most`.
+    /// A reader's state before the first step of a proof with variables up to `most`.
     pub(crate) fn within(alloc: Global, most: u32) -> PartialStep
         requires { most ≤ 199999999 }
         ensures { state_of result ≡ BetweenStepsWithin most }
@@ -99,7 +104,7 @@ impl PartialStep {
         }
     }
 
-    /// The complete step, lent part by part.
+    /// Lends the complete step: a deletion if `is_deletion`, otherwise an addition.
     #[inline(always)]
     pub(crate) fn step(&self, is_deletion: bool) -> StepRef<'_>
         ensures { step_of result ≡ step_held is_deletion self.now }
@@ -116,7 +121,7 @@ impl PartialStep {
         }
     }
 
-    /// Takes the number of an addition.
+    /// Stores the number of an addition; `BadToken` if it is no clause number.
     fn take_id(&mut self, token: Token) -> Result<Taken, TextFault>
         ensures { Tells (number_taken (AtId self.old.limit.most) token) result self.new }
     {
@@ -132,8 +137,8 @@ impl PartialStep {
         }
     }
 
-    /// Takes a literal of an addition.
-    fn take_variable(&mut self, variable: u64, is_negative: bool) -> Result<Taken, TextFault>
+    /// Appends a literal to an addition; a variable above the limit is refused (`NumberTooLarge`).
+    fn push_literal(&mut self, variable: u64, is_negative: bool) -> Result<Taken, TextFault>
         requires { 1 ≤ variable }
         ensures { Tells (literal_taken self.old.limit.most self.old.id self.old.literals.items variable (if is_negative then Neg variable else Pos variable)) result self.new }
     {
@@ -146,9 +151,9 @@ impl PartialStep {
         Ok(Taken::More)
     }
 
-    /// Takes a number at the place of a literal: a literal, or the 0 that ends them.
+    /// Takes a number among the literals: appends a literal, or ends their list at 0.
     fn take_literal(&mut self, token: Token) -> Result<Taken, TextFault>
-        requires { IsCounted token }
+        requires { IsPositive token }
         ensures { Tells (number_taken (AtLiterals self.old.limit.most self.old.id self.old.literals.items) token) result self.new }
     {
         match token {
@@ -159,13 +164,13 @@ impl PartialStep {
                 self.number = Number::new();
                 Ok(Taken::More)
             }
-            Token::Plus(variable) => self.take_variable(variable, false),
-            Token::Minus(variable) => self.take_variable(variable, true),
+            Token::Plus(variable) => self.push_literal(variable, false),
+            Token::Minus(variable) => self.push_literal(variable, true),
             Token::Other => Err(TextFault::BadToken),
         }
     }
 
-    /// Takes a hint: one of the last group, or of the lemma if there is no group.
+    /// Appends a hint to the last group, or to the addition's own hints if it has no group yet.
     fn push_hint(&mut self, hint: u64) -> Result<Taken, TextFault>
         ensures { Tells (hint_taken self.old.limit.most self.old.id self.old.literals.items self.old.numbers.items self.old.groups hint) result self.new }
     {
@@ -179,7 +184,7 @@ impl PartialStep {
         Ok(Taken::More)
     }
 
-    /// Takes a number at the place of a hint: a hint, a candidate that begins a group, or the 0 that ends the step.
+    /// Takes a number among the hints: appends a hint, begins a group with its candidate, or ends the addition at 0.
     fn take_hint(&mut self, token: Token) -> Result<Taken, TextFault>
         ensures { Tells (number_taken (AtHints self.old.limit.most self.old.id self.old.literals.items self.old.numbers.items self.old.groups) token) result self.new }
     {
@@ -196,7 +201,7 @@ impl PartialStep {
         }
     }
 
-    /// Takes a number of a deletion: a clause, or the 0 that ends the step.
+    /// Takes a number of a deletion: appends a clause number, or ends the deletion at 0.
     fn take_deleted(&mut self, token: Token) -> Result<Taken, TextFault>
         ensures { Tells (number_taken (AtDeleted self.old.limit.most self.old.numbers.items) token) result self.new }
     {
@@ -212,7 +217,7 @@ impl PartialStep {
         }
     }
 
-    /// Takes a complete number at its place.
+    /// Takes a complete number, given by its code, that belongs to the list `place`.
     fn take_number(&mut self, place: Place, code: u64) -> Result<Taken, TextFault>
         ensures { Tells (number_taken (prefix_of place self.old) (token_of code)) result self.new }
     {
@@ -225,7 +230,8 @@ impl PartialStep {
         }
     }
 
-    /// Takes a byte of the number at a place.
+    /// Takes a byte of a number that belongs to the list `place`. A last byte 0 after another byte is `BadToken`; a number of more than
+    /// seven bytes is `NumberTooLarge`.
     fn take_part(&mut self, place: Place, byte: u8) -> Result<Taken, TextFault>
         ensures { Tells (byte_taken (prefix_of place self.old) self.old.number.value self.old.number.weight byte) result self.new }
     {
@@ -244,7 +250,7 @@ impl PartialStep {
         Ok(Taken::More)
     }
 
-    /// Takes the letter that begins a step.
+    /// Takes the letter that begins a step: `a` for an addition, `d` for a deletion; another byte is `BadToken`.
     fn take_letter(&mut self, byte: u8) -> Result<Taken, TextFault>
         ensures { Tells (letter_taken self.old.limit.most byte) result self.new }
     {
@@ -264,7 +270,7 @@ impl PartialStep {
         }
     }
 
-    /// Takes the next byte. After a complete addition or deletion the caller must call `begin` before the next byte.
+    /// Takes the next byte, and answers whether it completes the step. If it does, the caller must call `begin` before the next byte.
     pub(crate) fn take_byte(&mut self, byte: u8) -> Result<Taken, TextFault>
         ensures { Tells (after_byte (state_of self.old) byte) result self.new }
     {
@@ -274,15 +280,16 @@ impl PartialStep {
         }
     }
 
-    /// Ends the complete step; the next byte begins another one.
+    /// Forgets the complete step; the next byte begins another one.
     pub(crate) fn begin(&mut self)
         ensures { state_of self.new ≡ BetweenStepsWithin self.old.limit.most }
     {
         self.place = None;
     }
 
-    /// Takes the short numbers that are complete in a text, up to the first other one, and answers what follows them. Within a number it
-    /// takes nothing.
+    /// Takes the short numbers at the beginning of a text, up to the first one that [`take_numbers`] or [`take_literals`] does not read,
+    /// and answers the text from there on. It takes nothing if a number is partly read, if a letter or an addition's number comes next, or
+    /// after the addition's first group has begun.
     #[inline(always)]
     pub(crate) fn take_short<'a>(&mut self, text: &'a [u8]) -> Result<&'a [u8], AllocError>
         ensures skips { IfOk result (λ rest. SkipsTo (state_of self.old) text.now (state_of self.new) rest.now) }

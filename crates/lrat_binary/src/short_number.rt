@@ -1,4 +1,4 @@
-//! Numbers of at most four bytes that are complete in a piece. Nearly all numbers of a proof are, so they have a path of their own.
+//! The fast path for numbers of at most four bytes that are complete in a piece. Nearly all numbers of a proof are such.
 
 ghost use Rattle.std.specs.Prelude.{◌≡◌, ◌++◌, ◌^◌, ◌<◌, ◌≤◌, [], ℕ, List, length, drop, IfSome, IfOk};
 ghost use Rattle.dimacs.specs.logic.Literal.{Literal};
@@ -9,11 +9,11 @@ use crate::partial_step::literal_of;
 use dimacs::Lit;
 use std::alloc::AllocError;
 
-/// The length in bytes of the longest short number. The short path is taken only if as many bytes are left.
+/// The length of the longest short number in bytes. The fast path needs as many bytes in the piece.
 const LONGEST: usize = 4;
 
-/// The number of at most four bytes at the beginning of a text, and its length. `None` if the number is longer, or fewer than four bytes
-/// are left.
+/// Reads the number at the beginning of a text: answers its value and its length in bytes. `None` if it has more than four bytes or a last
+/// byte 0 after another one, or if the text has fewer than four bytes.
 #[inline(always)]
 fn short_front(text: &[u8]) -> Option<(u64, usize)>
     ensures stands { IfSome result (λ p. StartsWithNumber text.now p.0 (drop p.1 text.now)) }
@@ -49,7 +49,7 @@ fn short_front(text: &[u8]) -> Option<(u64, usize)>
     Some((low + 2_097_152 * fourth, 4))
 }
 
-/// The short number at the beginning of a text, and what follows it.
+/// Reads the number at the beginning of a text: answers its value and the text after it. `None` if [`short_front`] does not read it.
 #[inline(always)]
 fn short_number(text: &[u8]) -> Option<(u64, &[u8])>
     ensures stands { IfSome result (λ p. StartsWithNumber text.now p.0 p.1.now) }
@@ -62,7 +62,8 @@ fn short_number(text: &[u8]) -> Option<(u64, &[u8])>
     Some((code, &text[len..]))
 }
 
-/// Takes hints, or clauses of a deletion, up to the first number that is not short or is no clause, and answers what follows them.
+/// Appends hints, or clause numbers of a deletion, up to the first number that is not short or is no clause's code, and answers the text
+/// from that number on.
 #[inline(always)]
 pub(crate) fn take_numbers<'a>(
     numbers: &mut Vec<u64>,
@@ -83,7 +84,8 @@ pub(crate) fn take_numbers<'a>(
     Ok(rest)
 }
 
-/// Takes literals up to the first number that is not short or is no literal within the limit, and answers what follows them.
+/// Appends literals up to the first number that is not short, is no literal's code or has a variable above `most`, and answers the text
+/// from that number on.
 #[inline(always)]
 pub(crate) fn take_literals<'a>(
     most: u32,

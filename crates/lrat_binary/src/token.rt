@@ -1,27 +1,27 @@
-//! What a number of a step stands for.
+//! The tokens of a step: what the code of each number means.
 
 ghost use Rattle.std.specs.Prelude.{◌≡◌};
 ghost use Rattle.lrat_binary.specs.Parser.{token_of};
-ghost use Rattle.lrat_binary.specs.inner.ByteTaken.{IsCounted};
+ghost use Rattle.lrat_binary.specs.inner.ByteTaken.{IsPositive};
 
-/// What a number of a step stands for. Whether `Plus` and `Minus` are literals, clauses or candidates depends on the place.
+/// What a number of a step means. The list that it belongs to decides whether `Plus(n)` and `Minus(n)` are literals, clauses or candidates.
 #[derive(Clone, Copy)]
 pub(crate) enum Token {
-    /// The 0 that ends a list.
+    /// 0, which ends a list.
     End,
     /// An even number 2n: `Plus(n)`.
     Plus(u64),
     /// An odd number 2n + 1: `Minus(n)`.
     Minus(u64),
-    /// 1, which stands for nothing.
+    /// 1, which means nothing.
     Other,
 }
 
-/// The token of a number.
+/// Answers what a number means.
 #[inline(always)]
 pub(crate) fn token_of(code: u64) -> Token
     ensures token { result ≡ token_of code }
-    ensures counted { IsCounted result }
+    ensures counted { IsPositive result }
 {
     if code == 0 {
         return Token::End;

@@ -71,6 +71,7 @@ begun_stands F s h = record {
   behind = subst (λ (b : ℕ). ExtendsBase (map_of F) b s.top s.live) (sym h.base)
       (subst (λ (t : ℕ). ExtendsBase (map_of F) (length F.clauses) t s.live) (sym h.top)
       (subst (λ (M : ClauseMap). ExtendsBase (map_of F) (length F.clauses) (length F.clauses) M) (sym h.live) (begun_behind F)));
+  most = h.most;
 }
 
 -- a checker that was cleared
@@ -83,14 +84,15 @@ stands_begun F s h low first uncut = record {
   top = low ∙ h.base;
   line = first;
   cut = uncut;
+  most = h.most;
 }
 
 -- another log may begin where the lemmas of the last one went out
-pub cleared : (F : Cnf) (s t : LogState) → HoldsFormula F s → t.base ≡ s.base → t.top ≡ t.base → t.line ≡ 1 → t.cut ≡ 0
+pub cleared : (F : Cnf) (s t : LogState) → HoldsFormula F s → t.base ≡ s.base → t.top ≡ t.base → t.line ≡ 1 → t.cut ≡ 0 → t.most ≡ s.most
     → ((M : ClauseMap) → ExtendsBase M s.base s.top s.live → ExtendsBase M t.base t.top t.live) → IsBegun F t
-cleared F s t h base low first uncut behind =
+cleared F s t h base low first uncut most behind =
     let rises : t.base ≤ t.top = omega (arith, low) in
-    stands_begun F t (record { base = base ∙ h.base; rises = rises; behind = behind (map_of F) h.behind }) low first uncut
+    stands_begun F t (record { base = base ∙ h.base; rises = rises; behind = behind (map_of F) h.behind; most = most ∙ h.most }) low first uncut
 
 -- ---- lines
 behind-removed : (M : ClauseMap) (b top : ℕ) (ids : List ℕ) (live : ClauseMap) → AllByRecursion (λ id. b < id) ids → ExtendsBase M b top live → ExtendsBase M b top (removed live ids)
@@ -113,4 +115,5 @@ takes_stands F s t line takes h =
       behind = subst (λ (b : ℕ). ExtendsBase (map_of F) b t.top t.live) (sym takes.base)
           (subst (λ (n : ℕ). ExtendsBase (map_of F) s.base n t.live) (sym takes.top)
           (subst (λ (N : ClauseMap). ExtendsBase (map_of F) s.base (top_after s.top t.step) N) (sym takes.live) after.1));
+      most = takes.most ∙ h.most;
     }

@@ -82,8 +82,8 @@ cut_more b M ids i N below high live h = record {
 
 -- ---- states
 -- a front of a deletion is out
-pub cut_off : (s t : LogState) → t.base ≡ s.base → t.top ≡ s.top → t.line ≡ s.line → IsCutAt s.base s.live (ids_of t.step) t.cut t.live → DeletesPrefix s t
-cut_off s t base top line h =
+pub cut_off : (s t : LogState) → t.base ≡ s.base → t.top ≡ s.top → t.line ≡ s.line → t.most ≡ s.most → IsCutAt s.base s.live (ids_of t.step) t.cut t.live → DeletesPrefix s t
+cut_off s t base top line most h =
     let gone : Step = Delete (take t.cut (ids_of t.step)) in
     record {
       base = base;
@@ -92,8 +92,9 @@ cut_off s t base top line h =
       within = h.within;
       follows = log_from_none s.base s.live s.top gone h.none;
       live = h.left ∙ live_same s.live gone;
+      most = most;
     }
 
 -- nothing has become of the clauses
-pub uncut : (s t : LogState) → t.base ≡ s.base → t.top ≡ s.top → t.line ≡ s.line → t.cut ≡ 0 → t.live ≡ s.live → DeletesPrefix s t
-uncut s t base top line none live = cut_off s t base top line (cut_none s.base s.live (ids_of t.step) t.cut t.live none live)
+pub uncut : (s t : LogState) → t.base ≡ s.base → t.top ≡ s.top → t.line ≡ s.line → t.most ≡ s.most → t.cut ≡ 0 → t.live ≡ s.live → DeletesPrefix s t
+uncut s t base top line most none live = cut_off s t base top line most (cut_none s.base s.live (ids_of t.step) t.cut t.live none live)

@@ -1,5 +1,5 @@
 -- A text has no fault as a fragment exactly if it closes the cube.
-use Rattle.std.proofs.Common.{◌≡◌, ◌⊎◌, ℕ, Bool, true, false, List, [], ◌∷◌, ◌++◌, Result, Ok, Err, cond, refl, sym, ◌∙◌, ap, subst, OnOk}
+use Rattle.std.proofs.Common.{◌≡◌, ◌⊎◌, ℕ, ◌^◌, ◌<◌, ◌≤◌, max, arith, Bool, true, false, List, [], ◌∷◌, ◌++◌, Result, Ok, Err, cond, refl, sym, ◌∙◌, ap, subst, OnOk}
 use Rattle.std.specs.List.{list_all, Contains}
 use Rattle.std.proofs.lemmas.Bool.{true≢false}
 use Rattle.dimacs.specs.logic.Cnf.{Cnf}
@@ -64,9 +64,10 @@ checked_fragment B q text e =
     let r = checked_text (fragment_end q) (nothing_left q) (begun B) text e in
     (r.0, r.1, r.2, ends_from q B r.0 (shown (closes q (after_lines (begun B) r.0).step) (after_lines (begun B) r.0).line r.3))
 
-pub fragment_checked : (B : Cnf) (q : Cube) (text : List ℕ) → Closes B q text → fragment_of B q text ≡ Ok tt
-fragment_checked B q text (steps, spelled, log, ends) =
-    text_checked (fragment_end q) (begun B) text steps spelled log
+pub fragment_checked : (B : Cnf) (q : Cube) (text : List ℕ) → B.vars ≤ 199999999 → Closes B q text → fragment_of B q text ≡ Ok tt
+fragment_checked B q text small (steps, spelled, log, ends) =
+    let few : max 2000000 B.vars < 2 ^ 48 = omega arith in
+    text_checked (fragment_end q) (begun B) text steps few spelled log
     (ap (λ c. cond c (Ok tt) (refused 17 (after_lines (begun B) steps).line 0)) (ends_to q (begun B) steps ends))
 
 -- what is found from the first line on is found of the fragment
@@ -76,6 +77,6 @@ begun_gives B q s text r is found = subst (λ (t : LogState). GivesCheck r (text
 pub begun_closes : (B : Cnf) (q : Cube) (s : LogState) (text : List ℕ) (r : Result (Unit {0}) CheckFault) → s ≡ begun B → GivesCheck r (text_from (fragment_end q) s text) → OnOk r (Closes B q text)
 begun_closes B q s text r is found = given_ok r (fragment_of B q text) (Closes B q text) (begun_gives B q s text r is found) (checked_fragment B q text)
 
-pub begun_complete : (B : Cnf) (q : Cube) (s : LogState) (text : List ℕ) (r : Result (Unit {0}) CheckFault) → s ≡ begun B → GivesCheck r (text_from (fragment_end q) s text) → Closes B q text
+pub begun_complete : (B : Cnf) (q : Cube) (s : LogState) (text : List ℕ) (r : Result (Unit {0}) CheckFault) → B.vars ≤ 199999999 → s ≡ begun B → GivesCheck r (text_from (fragment_end q) s text) → Closes B q text
     → (r ≡ Ok tt) ⊎ (r ≡ Err no_memory)
-begun_complete B q s text r is found closes = given_complete r (fragment_of B q text) (begun_gives B q s text r is found) (fragment_checked B q text closes)
+begun_complete B q s text r small is found closes = given_complete r (fragment_of B q text) (begun_gives B q s text r is found) (fragment_checked B q text small closes)

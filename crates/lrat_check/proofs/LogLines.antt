@@ -5,10 +5,10 @@ use Rattle.std.specs.List.{All}
 use Rattle.dimacs.specs.logic.Cnf.{Cnf}
 use Rattle.dimacs.specs.logic.ClauseMap.{ClauseMap, map_of}
 use Rattle.dimacs.specs.text.Words.{lines}
-use Rattle.lrat_text.specs.Grammar.{LineSpells}
+use Rattle.lrat_text.specs.Grammar.{LineSpellsWithin}
 use Rattle.lrat_text.specs.Lines.{IsOpen}
-use Rattle.lrat_text.specs.Log.{AreLogSteps, IsLog, after_step, top_after}
-use Rattle.lrat_text.specs.Parser.{step_in}
+use Rattle.lrat_text.specs.Log.{AreLogSteps, IsLog, after_step, log_top, top_after}
+use Rattle.lrat_text.specs.Parser.{step_within}
 use Rattle.lrat_text.specs.Runs.{after_steps, top_of}
 use Rattle.lrat_text.specs.LineSink.{TakesAll, HandsOn, LineRefused, PieceStops, ended_lines}
 use Rattle.lrat_text.specs.declared.line_splitter.PieceFault.{PieceFault}
@@ -62,16 +62,17 @@ hands_stand F s text t rest handed h = all_stand F handed.lines s t handed.taken
 -- ---- the lines of a log
 -- the lines spell steps of a log, which lead from one state to the other
 pub record AreLogLines (s : LogState) (lines : List (List ℕ)) (steps : List Step) (t : LogState) : Type 0 where
-  pub spelled : LineSpells (ended_lines lines) steps
+  pub spelled : LineSpellsWithin s.most (ended_lines lines) steps
   pub log : AreLogSteps s.base s.live s.top steps
   pub live : t.live ≡ after_steps s.live steps
   pub top : t.top ≡ top_of s.top steps
   pub base : t.base ≡ s.base
   pub line : t.line ≡ s.line + length steps
+  pub most : t.most ≡ s.most
 
 one_more : (s m t : LogState) (line : List ℕ) (lines : List (List ℕ)) (steps : List Step) → IsOpen line → TakesLogLine s line m → AreLogLines m lines steps t → AreLogLines s (line ∷ lines) (m.step ∷ steps) t
 one_more s m t line lines steps bare takes r = record {
-  spelled = (line, ended_lines lines, refl, no_lf_to line bare, takes.spells, r.spelled);
+  spelled = (line, ended_lines lines, refl, no_lf_to line bare, takes.spells, subst (λ (n : ℕ). LineSpellsWithin n (ended_lines lines) steps) takes.most r.spelled);
   log = (
     takes.follows,
     subst (λ (b : ℕ). AreLogSteps b (after_step s.live m.step) (top_after s.top m.step) steps) takes.base
@@ -82,6 +83,7 @@ one_more s m t line lines steps bare takes r = record {
   top = r.top ∙ ap (λ (n : ℕ). top_of n steps) takes.top;
   base = r.base ∙ takes.base;
   line = omega (arith, r.line, takes.line);
+  most = r.most ∙ takes.most;
 }
 
 log_lines : (lines : List (List ℕ)) (s t : LogState) → All IsOpen lines → TakesAll TakesLogLine s lines t → (steps : List Step) × AreLogLines s lines steps t
@@ -94,6 +96,7 @@ log_lines [] s t each e = (
     top = ap (λ (u : LogState). u.top) (sym e);
     base = ap (λ (u : LogState). u.base) (sym e);
     line = omega (arith, ap (λ (u : LogState). u.line) e);
+    most = ap (λ (u : LogState). u.most) (sym e);
   },
 )
 log_lines (line ∷ lines) s t each (m, takes, later) =
@@ -104,11 +107,12 @@ log_lines (line ∷ lines) s t each (m, takes, later) =
 pub record HasTakenLog (F : Cnf) (text : List ℕ) (steps : List Step) (t : LogState) (rest : List ℕ) : Type 0 where
   pub front : List ℕ
   pub whole : text ≡ front ++ rest
-  pub spelled : LineSpells front steps
+  pub spelled : LineSpellsWithin (log_top F) front steps
   pub log : IsLog F steps
   pub live : t.live ≡ after_steps (map_of F) steps
   pub top : t.top ≡ top_of (length F.clauses) steps
   pub base : t.base ≡ length F.clauses
+  pub most : t.most ≡ log_top F
 
 -- the lines that were taken since the log began are those of its steps
 pub log_taken : (F : Cnf) (s : LogState) (text : List ℕ) (t : LogState) (rest : List ℕ) → IsBegun F s → HandsOn TakesLogLine s text t rest → (steps : List Step) × HasTakenLog F text steps t rest
@@ -118,20 +122,21 @@ log_taken F s text t rest b h =
       record {
         front = ended_lines h.lines;
         whole = h.whole;
-        spelled = r.1.spelled;
+        spelled = subst (λ (n : ℕ). LineSpellsWithin n (ended_lines h.lines) r.0) b.most r.1.spelled;
         log = subst (λ (n : ℕ). AreLogSteps n (map_of F) (length F.clauses) r.0) b.base
             (subst (λ (M : ClauseMap). AreLogSteps s.base M (length F.clauses) r.0) b.live
             (subst (λ (n : ℕ). AreLogSteps s.base s.live n r.0) b.top r.1.log));
         live = r.1.live ∙ ap (λ (M : ClauseMap). after_steps M r.0) b.live;
         top = r.1.top ∙ ap (λ (n : ℕ). top_of n r.0) b.top;
         base = r.1.base ∙ b.base;
+        most = r.1.most ∙ b.most;
       },
     )
 
 -- ---- the whole text
 -- the step that was read last is nothing to a log, nor is what a refused one took out
 abbrev with_step : LogState → Step → LogState
-with_step s step = record { base = s.base; live = s.live; top = s.top; line = s.line; step = step; cut = 0 }
+with_step s step = record { base = s.base; live = s.live; top = s.top; line = s.line; step = step; cut = 0; most = s.most }
 
 fault_aside : (s : LogState) (x step : Step) (o : Option ℕ) → by_fault s step o ≡ by_fault (with_step s x) step o
 fault_aside s x step None = refl
@@ -144,7 +149,7 @@ read_aside s x (Err fault) = refl
 pieces_aside : (s : LogState) (x : Step) (piece : List ℕ) (pieces : List (List ℕ)) → pieces_from log_end s piece pieces ≡ pieces_from log_end (with_step s x) piece pieces
 unfolding pieces_from
 pieces_aside s x piece [] = refl
-pieces_aside s x piece (next ∷ pieces) = ap (λ (r : Result LogState CheckFault). by_line r (λ t. pieces_from log_end t next pieces)) (read_aside s x (step_in piece))
+pieces_aside s x piece (next ∷ pieces) = ap (λ (r : Result LogState CheckFault). by_line r (λ t. pieces_from log_end t next pieces)) (read_aside s x (step_within s.most piece))
 
 text_aside : (s : LogState) (x : Step) (text : List ℕ) → text_from log_end s text ≡ text_from log_end (with_step s x) text
 unfolding text_from
@@ -158,10 +163,11 @@ text_aside s x text =
 pub begun_same : (F : Cnf) (s : LogState) (text : List ℕ) → IsBegun F s → text_from log_end s text ≡ log_of F text
 begun_same F s text h =
     text_aside s (begun F).step text
-    ∙ ap (λ (b : ℕ). text_from log_end (record { base = b; live = s.live; top = s.top; line = s.line; step = (begun F).step; cut = 0 }) text) h.base
-    ∙ ap (λ (M : ClauseMap). text_from log_end (record { base = length F.clauses; live = M; top = s.top; line = s.line; step = (begun F).step; cut = 0 }) text) h.live
-    ∙ ap (λ (n : ℕ). text_from log_end (record { base = length F.clauses; live = map_of F; top = n; line = s.line; step = (begun F).step; cut = 0 }) text) h.top
-    ∙ ap (λ (n : ℕ). text_from log_end (record { base = length F.clauses; live = map_of F; top = length F.clauses; line = n; step = (begun F).step; cut = 0 }) text) h.line
+    ∙ ap (λ (b : ℕ). text_from log_end (record { base = b; live = s.live; top = s.top; line = s.line; step = (begun F).step; cut = 0; most = s.most }) text) h.base
+    ∙ ap (λ (M : ClauseMap). text_from log_end (record { base = length F.clauses; live = M; top = s.top; line = s.line; step = (begun F).step; cut = 0; most = s.most }) text) h.live
+    ∙ ap (λ (n : ℕ). text_from log_end (record { base = length F.clauses; live = map_of F; top = n; line = s.line; step = (begun F).step; cut = 0; most = s.most }) text) h.top
+    ∙ ap (λ (n : ℕ). text_from log_end (record { base = length F.clauses; live = map_of F; top = length F.clauses; line = n; step = (begun F).step; cut = 0; most = s.most }) text) h.line
+    ∙ ap (λ (n : ℕ). text_from log_end (record { base = length F.clauses; live = map_of F; top = length F.clauses; line = 1; step = (begun F).step; cut = 0; most = n }) text) h.most
 
 -- after its lines, the log is what its end answers
 pub log_ends : (F : Cnf) (s : LogState) (text : List ℕ) (t : LogState) (rest : List ℕ) → IsBegun F s → HandsOn TakesLogLine s text t rest → IsOpen rest → log_of F text ≡ log_end t rest

@@ -1,18 +1,18 @@
 -- The text of a log, line by line.
 use mathlib.Core.Path.{fun_ext}
-use Rattle.std.proofs.Common.{◌≡◌, ◌⊎◌, ℕ, false, List, [], ◌∷◌, ◌++◌, Option, Some, None, Result, Ok, Err, inl, inr, refl, sym, ◌∙◌, ap, append_assoc, subst, OnOk}
+use Rattle.std.proofs.Common.{◌≡◌, ◌⊎◌, ℕ, ◌^◌, ◌<◌, ◌≤◌, max, arith, false, List, [], ◌∷◌, ◌++◌, Option, Some, None, Result, Ok, Err, inl, inr, refl, sym, ◌∙◌, ap, append_assoc, subst, OnOk}
 use Rattle.std.proofs.lemmas.List.Elements.{All-head, All-tail}
 use Rattle.std.specs.List.{slice_split, All}
 use Rattle.std.proofs.lemmas.List.Splits.{slice_split_none, slice_split_at}
 use Rattle.dimacs.specs.logic.Cnf.{Cnf}
-use Rattle.lrat_text.specs.Grammar.{LineSpells}
+use Rattle.lrat_text.specs.Grammar.{LineSpellsWithin}
 use Rattle.lrat_text.specs.Lines.{IsOpen, IsCut}
 use Rattle.lrat_text.specs.Log.{AreLogSteps, after_step, top_after}
-use Rattle.lrat_text.specs.Parser.{step_in}
+use Rattle.lrat_text.specs.Parser.{step_within}
 use Rattle.lrat_text.specs.LineSink.{TakesAll, HandsOn, LineRefused, ended_lines}
 use Rattle.lrat_text.specs.declared.fault.TextFault.{TextFault}
 use Rattle.lrat_text.specs.declared.step.Step.{Step}
-use Rattle.lrat_text.proofs.SpellingLemmas.{found_spells, spelled_found}
+use Rattle.lrat_text.proofs.SpellingLemmas.{found_spells_within, spelled_found_within}
 use Rattle.lrat_check.specs.ProofFaults.{GivesCheck, by_pieces, no_memory}
 use Rattle.lrat_check.specs.Logs.{LogState, TakesLogLine, RefusesLogLine, SpellsLog, after_line, by_fault, line_read, log_line, log_step_fault, by_line, pieces_from, text_from, log_end, begun, log_of}
 use Rattle.lrat_check.specs.declared.line_checker.CheckFault.{CheckFault}
@@ -92,29 +92,29 @@ passed_stop at_end s text t fault (m, rest, line, later, h, cut, refuses) =
 -- ---- there is no fault exactly where the lines spell a log
 checked_pieces : (at_end : End) → ((s : LogState) (rest : List ℕ) → at_end s rest ≡ Ok tt → rest ≡ [])
     → (pieces : List (List ℕ)) (s : LogState) (piece : List ℕ) → pieces_from at_end s piece pieces ≡ Ok tt
-    → (steps : List Step) × Spell piece pieces steps × AreLogSteps s.base s.live s.top steps × (at_end (after_lines s steps) [] ≡ Ok tt)
+    → (steps : List Step) × Spell s.most piece pieces steps × AreLogSteps s.base s.live s.top steps × (at_end (after_lines s steps) [] ≡ Ok tt)
 unfolding pieces_from
 checked_pieces at_end ends [] s piece e = let none = ends s piece e in ([], none, tt, ap (at_end s) (sym none) ∙ e)
-checked_pieces at_end ends (next ∷ pieces) s piece e = at (step_in piece) refl e (λ step f. checked_pieces at_end ends pieces (after_line s step) next f)
+checked_pieces at_end ends (next ∷ pieces) s piece e = at (step_within s.most piece) refl e (λ step f. checked_pieces at_end ends pieces (after_line s step) next f)
   where
-    by : (step : Step) → step_in piece ≡ Ok step → (o : Option ℕ) → log_step_fault s.base s.live s.top step ≡ o
+    by : (step : Step) → step_within s.most piece ≡ Ok step → (o : Option ℕ) → log_step_fault s.base s.live s.top step ≡ o
         → by_line (by_fault s step o) (λ t. pieces_from at_end t next pieces) ≡ Ok tt
         → (pieces_from at_end (after_line s step) next pieces ≡ Ok tt
-        → (steps : List Step) × Spell next pieces steps × AreLogSteps s.base (after_step s.live step) (top_after s.top step) steps × (at_end (after_lines (after_line s step) steps) [] ≡ Ok tt))
-        → (steps : List Step) × Spell piece (next ∷ pieces) steps × AreLogSteps s.base s.live s.top steps × (at_end (after_lines s steps) [] ≡ Ok tt)
+        → (steps : List Step) × Spell s.most next pieces steps × AreLogSteps s.base (after_step s.live step) (top_after s.top step) steps × (at_end (after_lines (after_line s step) steps) [] ≡ Ok tt))
+        → (steps : List Step) × Spell s.most piece (next ∷ pieces) steps × AreLogSteps s.base s.live s.top steps × (at_end (after_lines s steps) [] ≡ Ok tt)
     by step is (Some number) first e rest = absurd cc
     by step is None first e rest = let r = rest e in (step ∷ r.0, (is, r.1), (log_from_none s.base s.live s.top step first, r.2), r.3)
 
-    at : (r : Result Step TextFault) → step_in piece ≡ r
+    at : (r : Result Step TextFault) → step_within s.most piece ≡ r
         → by_line (line_read s r) (λ t. pieces_from at_end t next pieces) ≡ Ok tt
         → ((step : Step) → pieces_from at_end (after_line s step) next pieces ≡ Ok tt
-        → (steps : List Step) × Spell next pieces steps × AreLogSteps s.base (after_step s.live step) (top_after s.top step) steps × (at_end (after_lines (after_line s step) steps) [] ≡ Ok tt))
-        → (steps : List Step) × Spell piece (next ∷ pieces) steps × AreLogSteps s.base s.live s.top steps × (at_end (after_lines s steps) [] ≡ Ok tt)
+        → (steps : List Step) × Spell s.most next pieces steps × AreLogSteps s.base (after_step s.live step) (top_after s.top step) steps × (at_end (after_lines (after_line s step) steps) [] ≡ Ok tt))
+        → (steps : List Step) × Spell s.most piece (next ∷ pieces) steps × AreLogSteps s.base s.live s.top steps × (at_end (after_lines s steps) [] ≡ Ok tt)
     at (Ok step) is e rest = by step is (log_step_fault s.base s.live s.top step) refl e (rest step)
     at (Err fault) is e rest = absurd cc
 
 pieces_checked : (at_end : End) (pieces : List (List ℕ)) (steps : List Step) (s : LogState) (piece : List ℕ)
-    → Spell piece pieces steps → AreLogSteps s.base s.live s.top steps → at_end (after_lines s steps) [] ≡ Ok tt → pieces_from at_end s piece pieces ≡ Ok tt
+    → Spell s.most piece pieces steps → AreLogSteps s.base s.live s.top steps → at_end (after_lines s steps) [] ≡ Ok tt → pieces_from at_end s piece pieces ≡ Ok tt
 unfolding pieces_from
 pieces_checked at_end [] [] s piece spell log e = ap (at_end s) spell ∙ e
 pieces_checked at_end [] (step ∷ steps) s piece spell log e = absurd spell
@@ -125,19 +125,19 @@ pieces_checked at_end (next ∷ pieces) (step ∷ steps) s piece spell log e =
     ∙ pieces_checked at_end pieces steps (after_line s step) next spell.1 log.1 e
 
 pub checked_text : (at_end : End) → ((s : LogState) (rest : List ℕ) → at_end s rest ≡ Ok tt → rest ≡ []) → (s : LogState) (text : List ℕ) → text_from at_end s text ≡ Ok tt
-    → (steps : List Step) × LineSpells text steps × AreLogSteps s.base s.live s.top steps × (at_end (after_lines s steps) [] ≡ Ok tt)
+    → (steps : List Step) × LineSpellsWithin s.most text steps × AreLogSteps s.base s.live s.top steps × (at_end (after_lines s steps) [] ≡ Ok tt)
 unfolding text_from
 checked_text at_end ends s text e =
     let split : (piece : List ℕ) × (pieces : List (List ℕ)) × (slice_split is_lf text ≡ piece ∷ pieces) = first_piece text in
-    let r : (steps : List Step) × Spell split.0 split.1 steps × AreLogSteps s.base s.live s.top steps × (at_end (after_lines s steps) [] ≡ Ok tt) =
+    let r : (steps : List Step) × Spell s.most split.0 split.1 steps × AreLogSteps s.base s.live s.top steps × (at_end (after_lines s steps) [] ≡ Ok tt) =
     checked_pieces at_end ends split.1 s split.0 (sym (ap (by_pieces (pieces_from at_end s)) split.2) ∙ e) in
-    (r.0, spell_lines found_spells spelled_found split.1 r.0 text split.0 split.2 r.1, r.2, r.3)
+    (r.0, spell_lines found_spells_within spelled_found_within s.most split.1 r.0 text split.0 split.2 r.1, r.2, r.3)
 
-pub text_checked : (at_end : End) (s : LogState) (text : List ℕ) (steps : List Step) → LineSpells text steps → AreLogSteps s.base s.live s.top steps
+pub text_checked : (at_end : End) (s : LogState) (text : List ℕ) (steps : List Step) → s.most < 2 ^ 48 → LineSpellsWithin s.most text steps → AreLogSteps s.base s.live s.top steps
     → at_end (after_lines s steps) [] ≡ Ok tt → text_from at_end s text ≡ Ok tt
 unfolding text_from
-text_checked at_end s text steps spelled log e =
-    let split : (piece : List ℕ) × (pieces : List (List ℕ)) × (slice_split is_lf text ≡ piece ∷ pieces) × Spell piece pieces steps = lines_spell found_spells spelled_found steps text spelled in
+text_checked at_end s text steps few spelled log e =
+    let split : (piece : List ℕ) × (pieces : List (List ℕ)) × (slice_split is_lf text ≡ piece ∷ pieces) × Spell s.most piece pieces steps = lines_spell found_spells_within spelled_found_within s.most few steps text spelled in
     ap (by_pieces (pieces_from at_end s)) split.2 ∙ pieces_checked at_end split.1 steps s split.0 split.3 log e
 
 nothing_left : (s : LogState) (rest : List ℕ) → log_end s rest ≡ Ok tt → rest ≡ []
@@ -147,8 +147,10 @@ nothing_left s (b ∷ bs) e = absurd cc
 pub checked_log : (F : Cnf) (text : List ℕ) → log_of F text ≡ Ok tt → SpellsLog F text
 checked_log F text e = let r = checked_text log_end nothing_left (begun F) text e in (r.0, r.1, r.2)
 
-pub log_checked : (F : Cnf) (text : List ℕ) → SpellsLog F text → log_of F text ≡ Ok tt
-log_checked F text (steps, spelled, log) = text_checked log_end (begun F) text steps spelled log refl
+pub log_checked : (F : Cnf) (text : List ℕ) → F.vars ≤ 199999999 → SpellsLog F text → log_of F text ≡ Ok tt
+log_checked F text small (steps, spelled, log) =
+    let few : max 2000000 F.vars < 2 ^ 48 = omega arith in
+    text_checked log_end (begun F) text steps few spelled log refl
 
 -- what is found from the first line on is found of the log
 pub begun_gives : (F : Cnf) (s : LogState) (text : List ℕ) (r : Result (Unit {0}) CheckFault) → s ≡ begun F → GivesCheck r (text_from log_end s text) → GivesCheck r (log_of F text)
@@ -157,6 +159,6 @@ begun_gives F s text r is found = subst (λ (t : LogState). GivesCheck r (text_f
 pub begun_spells : (F : Cnf) (s : LogState) (text : List ℕ) (r : Result (Unit {0}) CheckFault) → s ≡ begun F → GivesCheck r (text_from log_end s text) → OnOk r (SpellsLog F text)
 begun_spells F s text r is found = given_ok r (log_of F text) (SpellsLog F text) (begun_gives F s text r is found) (checked_log F text)
 
-pub begun_complete : (F : Cnf) (s : LogState) (text : List ℕ) (r : Result (Unit {0}) CheckFault) → s ≡ begun F → GivesCheck r (text_from log_end s text) → SpellsLog F text
+pub begun_complete : (F : Cnf) (s : LogState) (text : List ℕ) (r : Result (Unit {0}) CheckFault) → F.vars ≤ 199999999 → s ≡ begun F → GivesCheck r (text_from log_end s text) → SpellsLog F text
     → (r ≡ Ok tt) ⊎ (r ≡ Err no_memory)
-begun_complete F s text r is found spells = given_complete r (log_of F text) (begun_gives F s text r is found) (log_checked F text spells)
+begun_complete F s text r small is found spells = given_complete r (log_of F text) (begun_gives F s text r is found) (log_checked F text small spells)

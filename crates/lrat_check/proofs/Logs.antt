@@ -1,5 +1,5 @@
 -- A step has no fault exactly if a log takes it.
-use Rattle.std.proofs.Common.{◌≡◌, ℕ, ◌+◌, ◌<◌, Bool, true, false, List, [], ◌∷◌, Option, Some, None, Result, Ok, Err, cond, refl, sym, ◌∙◌, ap, subst, arith, length, eqb, drop, get_or, add-one, drop-cons}
+use Rattle.std.proofs.Common.{◌≡◌, ℕ, ◌+◌, ◌<◌, ◌^◌, Bool, true, false, List, [], ◌∷◌, Option, Some, None, Result, Ok, Err, cond, refl, sym, ◌∙◌, ap, subst, arith, length, eqb, drop, get_or, add-one, drop-cons}
 use Rattle.std.specs.Prelude.{nat_le, IsSome}
 use Rattle.std.specs.List.{AllByRecursion}
 use Rattle.std.specs.Option.{is_some}
@@ -12,11 +12,11 @@ use Rattle.dimacs.specs.logic.Literal.{Clause}
 use Rattle.dimacs.specs.logic.Propagation.{Rup, negations}
 use Rattle.dimacs.specs.logic.Rat.{Group}
 use Rattle.lrat_text.specs.Log.{after_step, top_after, IsLogStep}
-use Rattle.lrat_text.specs.Parser.{step_in}
+use Rattle.lrat_text.specs.Parser.{step_within}
 use Rattle.lrat_text.specs.declared.fault.TextFault.{TextFault}
 use Rattle.lrat_text.specs.declared.step.Step.{Step}
 use Rattle.lrat_text.specs.declared.step.Step.TheVariants.{Add, Delete}
-use Rattle.lrat_text.proofs.SpellingLemmas.{found_spells, spelled_found}
+use Rattle.lrat_text.proofs.SpellingLemmas.{found_spells_within, spelled_found_within}
 use Rattle.lrat_check.specs.StepFaults
 use Rattle.lrat_check.specs.StepFaults.{Walk, Through, Conflict, Fault, walk, is_tautology, has_groups, deletion_fault, live_after}
 use Rattle.lrat_check.specs.Logs.{LogState, TakesLogLine, after_line, by_fault, line_read, log_line, rup_fault, log_addition_fault, log_deletion_fault, log_step_fault}
@@ -118,29 +118,30 @@ top_same top (Delete ids) = refl
 
 -- ---- lines
 -- what a line leads to is said by the step that it spells
-pub line_takes : (s t : LogState) (line : List ℕ) → log_line s line ≡ Ok t → TakesLogLine s line t
-line_takes s t line e = at (step_in line) refl e
+pub line_takes : (s t : LogState) (line : List ℕ) → s.most < 2 ^ 48 → log_line s line ≡ Ok t → TakesLogLine s line t
+line_takes s t line few e = at (step_within s.most line) refl e
   where
-    by : (step : Step) → step_in line ≡ Ok step → (o : Option ℕ) → log_step_fault s.base s.live s.top step ≡ o → by_fault s step o ≡ Ok t → TakesLogLine s line t
+    by : (step : Step) → step_within s.most line ≡ Ok step → (o : Option ℕ) → log_step_fault s.base s.live s.top step ≡ o → by_fault s step o ≡ Ok t → TakesLogLine s line t
     by step is None first e =
         let same : after_line s step ≡ t = cc in
         subst (λ (u : LogState). TakesLogLine s line u) same
-        (record { spells = found_spells line step is; follows = log_from_none s.base s.live s.top step first; live = refl; top = refl; base = refl; line = refl; cut = refl })
+        (record { spells = found_spells_within s.most line step is; follows = log_from_none s.base s.live s.top step first; live = refl; top = refl; base = refl; line = refl; cut = refl; few = few; most = refl })
     by step is (Some number) first e = absurd cc
 
-    at : (r : Result Step TextFault) → step_in line ≡ r → line_read s r ≡ Ok t → TakesLogLine s line t
+    at : (r : Result Step TextFault) → step_within s.most line ≡ r → line_read s r ≡ Ok t → TakesLogLine s line t
     at (Ok step) is e = by step is (log_step_fault s.base s.live s.top step) refl e
     at (Err fault) is e = absurd cc
 
 pub takes_line : (s t : LogState) (line : List ℕ) → TakesLogLine s line t → log_line s line ≡ Ok t
 takes_line s t line h =
-    ap (line_read s) (spelled_found line t.step h.spells)
+    ap (line_read s) (spelled_found_within s.most line t.step h.few h.spells)
     ∙ ap (by_fault s t.step) (none_from_log s.base s.live s.top t.step h.follows)
-    ∙ ap (λ (b : ℕ). Ok (record { base = b; live = after_step s.live t.step; top = top_after s.top t.step; line = s.line + 1; step = t.step; cut = 0 })) (sym h.base)
-    ∙ ap (λ (M : ClauseMap). Ok (record { base = t.base; live = M; top = top_after s.top t.step; line = s.line + 1; step = t.step; cut = 0 })) (sym h.live)
-    ∙ ap (λ (n : ℕ). Ok (record { base = t.base; live = t.live; top = n; line = s.line + 1; step = t.step; cut = 0 })) (sym h.top)
-    ∙ ap (λ (n : ℕ). Ok (record { base = t.base; live = t.live; top = t.top; line = n; step = t.step; cut = 0 })) (sym h.line)
-    ∙ ap (λ (n : ℕ). Ok (record { base = t.base; live = t.live; top = t.top; line = t.line; step = t.step; cut = n })) (sym h.cut)
+    ∙ ap (λ (b : ℕ). Ok (record { base = b; live = after_step s.live t.step; top = top_after s.top t.step; line = s.line + 1; step = t.step; cut = 0; most = s.most })) (sym h.base)
+    ∙ ap (λ (M : ClauseMap). Ok (record { base = t.base; live = M; top = top_after s.top t.step; line = s.line + 1; step = t.step; cut = 0; most = s.most })) (sym h.live)
+    ∙ ap (λ (n : ℕ). Ok (record { base = t.base; live = t.live; top = n; line = s.line + 1; step = t.step; cut = 0; most = s.most })) (sym h.top)
+    ∙ ap (λ (n : ℕ). Ok (record { base = t.base; live = t.live; top = t.top; line = n; step = t.step; cut = 0; most = s.most })) (sym h.line)
+    ∙ ap (λ (n : ℕ). Ok (record { base = t.base; live = t.live; top = t.top; line = t.line; step = t.step; cut = n; most = s.most })) (sym h.cut)
+    ∙ ap (λ (n : ℕ). Ok (record { base = t.base; live = t.live; top = t.top; line = t.line; step = t.step; cut = t.cut; most = n })) (sym h.most)
 
 -- ---- deletions, number by number
 pub own_none : (b : ℕ) (M : ClauseMap) (id : ℕ) (ids : List ℕ) → b < id → is_some (get M id) ≡ true → log_deletion_fault b (remove M id) ids ≡ None → log_deletion_fault b M (id ∷ ids) ≡ None

@@ -24,31 +24,32 @@ use Rattle.lrat_check.proofs.Passing.{gives}
 
 -- lines that are passed, one after the other
 leads_all : (lines : List (List ℕ)) (s t : LineChecker) → All IsOpen lines → TakesAll TakesProofLine s lines t → (more : List ℕ)
-    → check_text s.checker.refuted s.checker.live s.checker.top s.line (ended_lines lines ++ more) ≡ check_text t.checker.refuted t.checker.live t.checker.top t.line more
-leads_all [] s t each e more = ap (λ (c : LineChecker). check_text c.checker.refuted c.checker.live c.checker.top c.line more) e
-leads_all (line ∷ lines) s t each (m, (goes, follows), later) more =
-    ap (check_text s.checker.refuted s.checker.live s.checker.top s.line) (append_assoc line (10 ∷ ended_lines lines) more)
-    ∙ check_text-line s.checker.refuted s.checker.live s.checker.top s.line line (ended_lines lines ++ more) (All-head IsOpen line lines each)
-    ∙ goes.1 (λ refuted M top. check_text refuted M top (s.line + 1) (ended_lines lines ++ more))
-    ∙ ap (λ n. check_text m.checker.refuted m.checker.live m.checker.top n (ended_lines lines ++ more)) (sym follows)
+    → check_text s.limit.most s.checker.refuted s.checker.live s.checker.top s.line (ended_lines lines ++ more) ≡ check_text t.limit.most t.checker.refuted t.checker.live t.checker.top t.line more
+leads_all [] s t each e more = ap (λ (c : LineChecker). check_text c.limit.most c.checker.refuted c.checker.live c.checker.top c.line more) e
+leads_all (line ∷ lines) s t each (m, (goes, follows, same), later) more =
+    ap (check_text s.limit.most s.checker.refuted s.checker.live s.checker.top s.line) (append_assoc line (10 ∷ ended_lines lines) more)
+    ∙ check_text-line s.limit.most s.checker.refuted s.checker.live s.checker.top s.line line (ended_lines lines ++ more) (All-head IsOpen line lines each)
+    ∙ goes.1 (λ refuted M top. check_text s.limit.most refuted M top (s.line + 1) (ended_lines lines ++ more))
+    ∙ ap (λ n. check_text s.limit.most m.checker.refuted m.checker.live m.checker.top n (ended_lines lines ++ more)) (sym follows)
+    ∙ ap (λ n. check_text n m.checker.refuted m.checker.live m.checker.top m.line (ended_lines lines ++ more)) (sym same)
     ∙ leads_all lines m t (All-tail IsOpen line lines each) later more
 
 -- the begun line and a piece
-pub hands_lead : (s : LineChecker) (begun piece : List ℕ) (t : LineChecker) (rest : List ℕ) → HandsOn TakesProofLine s (begun ++ piece) t rest → LeadsTo (Within s.checker s.line begun) piece (Within t.checker t.line rest)
+pub hands_lead : (s : LineChecker) (begun piece : List ℕ) (t : LineChecker) (rest : List ℕ) → HandsOn TakesProofLine s (begun ++ piece) t rest → LeadsTo (Within s.limit.most s.checker s.line begun) piece (Within t.limit.most t.checker t.line rest)
 hands_lead s begun piece t rest h = λ more.
-    ap (check_text s.checker.refuted s.checker.live s.checker.top s.line) (sym (append_assoc begun piece more) ∙ ap (λ (x : List ℕ). x ++ more) h.whole ∙ append_assoc (ended_lines h.lines) rest more)
+    ap (check_text s.limit.most s.checker.refuted s.checker.live s.checker.top s.line) (sym (append_assoc begun piece more) ∙ ap (λ (x : List ℕ). x ++ more) h.whole ∙ append_assoc (ended_lines h.lines) rest more)
     ∙ leads_all h.lines s t h.one_by_one h.taken (rest ++ more)
 
 -- a line that is refused
-refused_leads : (s : LineChecker) (rest line later : List ℕ) (fault : CheckFault) → IsCut rest line later → LineFails s.checker s.line line fault → LeadsTo (Within s.checker s.line []) rest (Failed fault)
+refused_leads : (s : LineChecker) (rest line later : List ℕ) (fault : CheckFault) → IsCut rest line later → LineFails s.limit.most s.checker s.line line fault → LeadsTo (Within s.limit.most s.checker s.line []) rest (Failed fault)
 refused_leads s rest line later fault cut stops = λ more.
-    ap (λ (x : List ℕ). check_text s.checker.refuted s.checker.live s.checker.top s.line (x ++ more)) cut.0
-    ∙ ap (check_text s.checker.refuted s.checker.live s.checker.top s.line) (append_assoc line (10 ∷ later) more)
-    ∙ check_text-line s.checker.refuted s.checker.live s.checker.top s.line line (later ++ more) cut.1
-    ∙ stops (λ refuted M top. check_text refuted M top (s.line + 1) (later ++ more))
+    ap (λ (x : List ℕ). check_text s.limit.most s.checker.refuted s.checker.live s.checker.top s.line (x ++ more)) cut.0
+    ∙ ap (check_text s.limit.most s.checker.refuted s.checker.live s.checker.top s.line) (append_assoc line (10 ∷ later) more)
+    ∙ check_text-line s.limit.most s.checker.refuted s.checker.live s.checker.top s.line line (later ++ more) cut.1
+    ∙ stops (λ refuted M top. check_text s.limit.most refuted M top (s.line + 1) (later ++ more))
 
 pub stops_lead : (s : LineChecker) (begun piece : List ℕ) (t : LineChecker) (fault : PieceFault CheckFault) → PieceStops TakesProofLine RefusesProofLine s (begun ++ piece) t fault
-    → (piece_refusal fault ≡ no_memory) ⊎ LeadsTo (Within s.checker s.line begun) piece (Failed (piece_refusal fault))
+    → (piece_refusal fault ≡ no_memory) ⊎ LeadsTo (Within s.limit.most s.checker s.line begun) piece (Failed (piece_refusal fault))
 stops_lead s begun piece t NoPlace stops = inl refl
 stops_lead s begun piece t (Line fault) (m, rest, line, later, h, cut, inl none) = inl none
 stops_lead s begun piece t (Line fault) (m, rest, line, later, h, cut, inr stops) =
@@ -69,14 +70,14 @@ takes_nothing fault piece = record {
   history = history (Failed fault) piece (Failed fault) (λ e. e) (inr (λ more. refl));
 }
 
-never : {P : Type 0} (s : State) (line : ℕ) (begun : List ℕ) (fault : CheckFault) → Within s line begun ≡ Failed fault → P
-never s line begun fault e = absurd cc
+never : {P : Type 0} (most : ℕ) (s : State) (line : ℕ) (begun : List ℕ) (fault : CheckFault) → Within most s line begun ≡ Failed fault → P
+never most s line begun fault e = absurd cc
 
-pub takes_within : (s : State) (line : ℕ) (begun piece : List ℕ) (new : CheckProgress) → Reaches (Within s line begun) piece new → TakesPiece (Within s line begun) piece (answer_in new) new
-takes_within s line begun piece new reaches = record {
+pub takes_within : (most : ℕ) (s : State) (line : ℕ) (begun piece : List ℕ) (new : CheckProgress) → Reaches (Within most s line begun) piece new → TakesPiece (Within most s line begun) piece (answer_in new) new
+takes_within most s line begun piece new reaches = record {
   answers = refl;
-  stays = λ f e. never s line begun f e;
-  history = history (Within s line begun) piece new (λ e. never s line begun no_memory e) reaches;
+  stays = λ f e. never most s line begun f e;
+  history = history (Within most s line begun) piece new (λ e. never most s line begun no_memory e) reaches;
 }
 
 pub fails : (old : CheckProgress) (piece : List ℕ) (fault : CheckFault) → (fault ≡ no_memory) ⊎ LeadsTo old piece (Failed fault) → Reaches old piece (Failed fault)
@@ -84,8 +85,8 @@ fails old piece fault (inl e) = inl (ap Failed e)
 fails old piece fault (inr leads) = inr leads
 
 -- what is answered at the end
-pub ends : (s : State) (line : ℕ) (begun : List ℕ) → IsOpen begun → check_end s.refuted line begun ≡ check_more (Within s line begun) []
-ends s line begun no_lf = sym (ap (check_text s.refuted s.live s.top line) (append-nil begun) ∙ check_text-end s.refuted s.live s.top line begun no_lf)
+pub ends : (most : ℕ) (s : State) (line : ℕ) (begun : List ℕ) → IsOpen begun → check_end s.refuted line begun ≡ check_more (Within most s line begun) []
+ends most s line begun no_lf = sym (ap (check_text most s.refuted s.live s.top line) (append-nil begun) ∙ check_text-end most s.refuted s.live s.top line begun no_lf)
 
 -- ---- a whole text
 
@@ -94,7 +95,7 @@ finished F p bytes r (inl none) is = subst (λ x. GivesCheck x (check_of F bytes
 finished F p bytes r (inr h) is = gives r (check_of F bytes) (ap (check_of F) (sym (append-nil bytes)) ∙ h [] ∙ sym is)
 
 pub stopped : (F : Cnf) (p : CheckProgress) (done later whole : List ℕ) (fault : CheckFault) → whole ≡ done ++ later → HasTaken F p done → Err fault ≡ answer_in p → GivesCheck (Err fault) (check_of F whole)
-stopped F (Within s line begun) done later whole fault split taken is = absurd (let no : Err fault ≡ Ok tt = is in cc)
+stopped F (Within most s line begun) done later whole fault split taken is = absurd (let no : Err fault ≡ Ok tt = is in cc)
 stopped F (Failed f) done later whole fault split taken is = at taken
   where
     same : f ≡ fault

@@ -8,6 +8,7 @@ pub mod FaultNumbers
 pub mod Refusals
 pub mod Soundness
 pub mod State
+pub mod Statuses
 pub mod Stream
 pub mod Verdicts
 pub mod inner

@@ -1,4 +1,4 @@
--- The fault of a line or a piece that is refused before there is a step to test.
+-- The faults that are known before there is a step to test: of a line that spells no step, and of a piece.
 use Rattle.std.specs.Prelude.{ℕ}
 use Rattle.lrat_text.specs.declared.fault.TextFault.{TextFault}
 use Rattle.lrat_text.specs.declared.fault.TextFault.TheVariants.{BadToken, LineNotEnded, MissingZero, NumberTooLarge, NoMemory}
@@ -15,7 +15,7 @@ text_refusal MissingZero line = record { number = 1; line = line; text = 3 }
 text_refusal NumberTooLarge line = record { number = 1; line = line; text = 4 }
 text_refusal NoMemory line = no_memory
 
--- the fault of a piece that is not taken to its end
+-- the fault of a piece that is not taken to its end: that of a line, or that memory was refused
 abbrev pub piece_refusal : PieceFault CheckFault → CheckFault
 piece_refusal NoPlace = no_memory
 piece_refusal (Line fault) = fault

@@ -12,7 +12,6 @@ pub mod Logs
 pub mod Marks
 pub mod CandidateOrder
 pub mod State
-pub mod Statuses
 pub mod Store
 pub mod Stream
 pub mod LiteralTable

@@ -1,4 +1,4 @@
-//! A block: 1,024 cells of the table by clause number, allocated when the first slot is put there.
+//! A block: 1,024 cells of the near table, allocated when the first slot is put into one of them.
 
 ghost use Rattle.std.specs.Prelude.{◌≡◌, ◌-◌, ◌^◌, ◌<◌, None, Some, slice_index_or, slice_set, OnOk, OnErr, IfOk};
 ghost use Rattle.std.specs.Bool.{OnTrue};
@@ -12,10 +12,10 @@ use std::alloc::{AllocError, Global};
 use std::marker::Model;
 use std::mem;
 
-/// Cells per block.
+/// The number of cells of a block.
 pub(crate) const BLOCK: usize = 1024;
 
-/// Allocates the cells of a block, if it has none.
+/// Allocates the cells of a block, all free, unless they are allocated.
 fn make_cells(cells: &mut Vec<Cell>) -> Result<(), AllocError>
     ensures ok { OnOk result (cells.new.items ≡ places_of cells.old.items) }
     ensures err { OnErr result (cells.new.items ≡ cells.old.items) }
@@ -26,11 +26,12 @@ fn make_cells(cells: &mut Vec<Cell>) -> Result<(), AllocError>
     Ok(())
 }
 
-/// 1,024 cells, each free or with a slot. If all are free, the vector may be empty.
+/// 1,024 cells, each free or with a slot. If all are free, they may be unallocated.
 #[derive(Drop)]
 pub(crate) struct Block {
+    /// The 1,024 cells, or none.
     cells: Vec<Cell>,
-    /// How many cells have a slot.
+    /// The number of cells that have a slot.
     live: usize,
 }
 
@@ -47,7 +48,7 @@ impl Model for Block {
 }
 
 impl Block {
-    /// All cells free, and none allocated.
+    /// A block of free cells, none of them allocated.
     pub(crate) fn new(alloc: Global) -> Block
         ensures { result ≡ free_block }
     {
@@ -57,26 +58,26 @@ impl Block {
         }
     }
 
-    /// Whether no cells are allocated.
+    /// Answers whether no cell is allocated.
     pub(crate) fn is_bare(&self) -> bool
         ensures { OnTrue result (self.now ≡ free_block) }
     {
         self.cells.is_empty()
     }
 
-    /// Whether all cells are free.
+    /// Answers whether all cells are free.
     pub(crate) fn is_free(&self) -> bool
         ensures { OnTrue result (self.now ≡ free_block) }
     {
         self.live == 0
     }
 
-    /// How many cells are allocated: none or 1,024.
+    /// Answers the number of allocated cells: 0 or 1,024.
     pub(crate) fn weight(&self) -> usize {
         self.cells.len()
     }
 
-    /// The slot at a place, if there is one.
+    /// Answers the slot in the cell of index `place` (from 0); `None` if the cell is free.
     #[inline(always)]
     pub(crate) fn get(&self, place: usize) -> Option<Slot>
         ensures { result ≡ slice_index_or self.now place None }
@@ -87,7 +88,7 @@ impl Block {
         }
     }
 
-    /// Puts a slot at a place.
+    /// Puts a slot into the cell of index `place`. If memory is refused, the block is as before.
     pub(crate) fn put(&mut self, place: usize, slot: Slot) -> Result<(), AllocError>
         requires within { place < 1024 }
         requires room { slot.place < 2 ^ 64 - 1 }
@@ -102,7 +103,7 @@ impl Block {
         Ok(())
     }
 
-    /// Frees a place.
+    /// Frees the cell of index `place`, if it is allocated, and counts the block's live cells.
     pub(crate) fn free(&mut self, place: usize)
         ensures { self.new ≡ slice_set self.old place None }
     {
@@ -114,7 +115,7 @@ impl Block {
         }
     }
 
-    /// Moves the block out, and leaves a free one.
+    /// Moves the block out, and leaves a free one without allocated cells.
     pub(crate) fn take(&mut self) -> Block
         ensures taken { result ≡ self.old }
         ensures none { self.new ≡ free_block }
@@ -123,7 +124,8 @@ impl Block {
         mem::replace(self, none)
     }
 
-    /// Appends the block's clauses to `out`, and gives the block of their new slots.
+    /// A part of compaction: appends the block's clauses to `out`, and answers the block of their
+    /// new slots.
     pub(crate) fn copied(&self, literals: &[Lit], out: &mut Vec<Lit>) -> Result<Block, AllocError>
         requires { ArePlaced literals.now self.now }
         ensures copied { IfOk result (λ copy. AreCopied literals.now self.now out.new.items copy) }

@@ -11,11 +11,16 @@ use std::alloc::{AllocError, Global};
 use std::marker::Model;
 use std::mem;
 
-/// The most blocks, so that the number of all places fits in a `usize`.
+/// The greatest number of blocks, so that the number of cells fits in a `usize`.
 const MOST: usize = 1 << 48;
 
-/// Puts a slot at a place of a block. If the block has no cells, it takes those of the spare block.
-fn put_in(block: &mut Block, spare: &mut Block, place: usize, slot: Slot) -> Result<(), AllocError>
+/// Puts a slot into the cell of index `place` of a block. If the block has no cells, it first takes those of the spare block.
+fn set_cell(
+    block: &mut Block,
+    spare: &mut Block,
+    place: usize,
+    slot: Slot,
+) -> Result<(), AllocError>
     requires within { place < 1024 }
     requires room { slot.place < 2 ^ 64 - 1 }
     requires spare { spare.old ≡ free_block }
@@ -29,8 +34,9 @@ fn put_in(block: &mut Block, spare: &mut Block, place: usize, slot: Slot) -> Res
     block.put(place, slot)
 }
 
-/// Frees a place of a block. If no slot is left there, its cells become the spare ones, and the old spare ones are freed.
-fn free_in(block: &mut Block, spare: &mut Block, place: usize)
+/// Frees the cell of index `place` of a block. A block without a slot gives its cells back: they
+/// become the spare ones, for the next block that needs cells, and the old spare ones are freed.
+fn free_cell(block: &mut Block, spare: &mut Block, place: usize)
     requires { spare.old ≡ free_block }
     ensures freed { block.new ≡ slice_set block.old place None }
     ensures spare { spare.new ≡ free_block }
@@ -41,10 +47,11 @@ fn free_in(block: &mut Block, spare: &mut Block, place: usize)
     }
 }
 
-/// Slots by place. Most places are numbers of deleted lemmas, so each block of 1,024 cells is allocated when a slot is first put there,
-/// and freed after its last slot is gone. Else a proof would take memory for each number that it ever gave.
+/// A table of slots by index. Most indices are numbers of deleted lemmas, so each block of 1,024 cells is allocated when a slot is first
+/// put there, and freed after its last slot is gone. Otherwise a proof would take memory for each number that it ever gave.
 #[derive(Drop)]
 pub(crate) struct Blocks {
+    /// The blocks: index i is in block i / 1,024.
     blocks: Vec<Block>,
     /// A block without slots, whose cells the next block takes. So a proof that adds and deletes lemmas by turns allocates nothing.
     spare: Block,
@@ -73,7 +80,7 @@ impl Blocks {
         }
     }
 
-    /// How many places there are.
+    /// Answers the number of cells, allocated or not.
     #[inline(always)]
     pub(crate) fn len(&self) -> usize
         ensures len { result ≡ length self.now }
@@ -82,14 +89,14 @@ impl Blocks {
         BLOCK * self.blocks.len()
     }
 
-    /// For proofs: bounds the number of places. It does nothing.
+    /// A step of proofs: its contract bounds the number of cells. It does nothing at run time.
     pub(crate) fn bound_len(&self)
         ensures { length self.now < 2 ^ 62 }
     {
         let _ = self.len();
     }
 
-    /// The slot at a place, if there is one.
+    /// Answers the slot at index `place`; `None` if the cell is free or the table ends before it.
     #[inline(always)]
     pub(crate) fn get(&self, place: usize) -> Option<Slot>
         ensures { result ≡ slice_index_or self.now place None }
@@ -100,14 +107,14 @@ impl Blocks {
         }
     }
 
-    /// Puts a slot at a place. If cells have to be allocated and memory is refused, nothing changes.
+    /// Puts a slot at index `place`. If cells have to be allocated and memory is refused, nothing changes.
     pub(crate) fn set(&mut self, place: usize, slot: Slot) -> Result<(), AllocError>
         requires here { place < length self.old }
         requires room { slot.place < 2 ^ 64 - 1 }
         ensures ok { OnOk result (self.new ≡ slice_set self.old place (Some slot)) }
         ensures err { OnErr result (self.new ≡ self.old) }
     {
-        put_in(
+        set_cell(
             &mut self.blocks[place / BLOCK],
             &mut self.spare,
             place % BLOCK,
@@ -115,20 +122,20 @@ impl Blocks {
         )
     }
 
-    /// Frees a place.
+    /// Frees the cell at index `place`.
     pub(crate) fn free(&mut self, place: usize)
         requires { place < length self.old }
         ensures { self.new ≡ slice_set self.old place None }
     {
-        free_in(
+        free_cell(
             &mut self.blocks[place / BLOCK],
             &mut self.spare,
             place % BLOCK,
         );
     }
 
-    /// Appends a block of free places.
-    pub(crate) fn grow(&mut self) -> Result<(), AllocError>
+    /// Appends a block of free cells, none of them allocated.
+    pub(crate) fn push_block(&mut self) -> Result<(), AllocError>
         ensures ok { OnOk result (self.new ≡ self.old ++ free_block) }
         ensures err { OnErr result (self.new ≡ self.old) }
     {
@@ -140,7 +147,7 @@ impl Blocks {
         Ok(())
     }
 
-    /// The number of blocks and of allocated cells: what a copy has to look at.
+    /// Answers the number of blocks and of allocated cells: what a copy of the table has to look at.
     pub(crate) fn weight(&self) -> usize {
         let mut weight = self.blocks.len();
         for block in &self.blocks {
@@ -149,7 +156,8 @@ impl Blocks {
         weight
     }
 
-    /// Appends the table's clauses to `out`, and gives the table of their new slots.
+    /// A part of compaction: appends the clauses of the table to `out`, and answers the table of
+    /// their new slots.
     pub(crate) fn copied(&self, literals: &[Lit], out: &mut Vec<Lit>) -> Result<Blocks, AllocError>
         requires { ArePlaced literals.now self.now }
         ensures copied { IfOk result (λ copy. AreCopied literals.now self.now out.new.items copy) }
@@ -163,7 +171,8 @@ impl Blocks {
     }
 }
 
-/// Appends the clauses of blocks to `out`, and gives the blocks of their new slots.
+/// A part of compaction: appends the clauses of blocks to `out`, and answers the blocks of their
+/// new slots.
 fn copy_blocks(
     alloc: Global,
     literals: &[Lit],
@@ -185,19 +194,19 @@ fn copy_blocks(
     Ok(copies)
 }
 
-/// Appends a block of free places, if the table ends before this place.
-fn reach(blocks: &mut Blocks, place: usize) -> Result<(), AllocError>
+/// Appends a block of free cells if the table ends before index `place`, which is at most one block after its end.
+fn grow_to(blocks: &mut Blocks, place: usize) -> Result<(), AllocError>
     requires { place < length blocks.old + 1024 }
     ensures longer { OnOk result (place < length blocks.new) }
     ensures same { (q : ℕ) → slice_index_or blocks.new q None ≡ slice_index_or blocks.old q None }
 {
     if blocks.len() <= place {
-        blocks.grow()?;
+        blocks.push_block()?;
     }
     Ok(())
 }
 
-/// Puts a slot at a place, at most one block after the table's end.
+/// Puts a slot at index `place`, which is at most one block after the table's end.
 pub(crate) fn put_next(blocks: &mut Blocks, place: usize, slot: Slot) -> Result<(), AllocError>
     requires next { place < length blocks.old + 1024 }
     requires room { slot.place < 2 ^ 64 - 1 }
@@ -205,6 +214,6 @@ pub(crate) fn put_next(blocks: &mut Blocks, place: usize, slot: Slot) -> Result<
     ensures here { OnOk result (slice_index_or blocks.new place None ≡ Some slot) }
     ensures others { OnOk result ((q : ℕ) → q ≢ place → slice_index_or blocks.new q None ≡ slice_index_or blocks.old q None) }
 {
-    reach(blocks, place)?;
+    grow_to(blocks, place)?;
     blocks.set(place, slot)
 }

@@ -1,4 +1,4 @@
-//! Compaction: the live clauses are copied one after the other, without the literals of deleted ones.
+//! Compaction: copies the live clauses one after the other into a new vector, without the literals of deleted clauses.
 
 ghost use Rattle.std.specs.Prelude.{◌≡◌, length, vec_len, OnOk, IfOk, IfSome, option_map, []};
 ghost use Rattle.lrat_check.specs.inner.Store.{clause_at, IsPlaced, ArePlaced, Keeps, SameClauses};
@@ -8,7 +8,8 @@ use crate::slot_tables::{append, clause_of};
 use dimacs::Lit;
 use std::alloc::AllocError;
 
-/// Appends the clause of a cell's slot to `out`, if the cell is not free, and gives the cell of the new slot.
+/// Appends the clause of a cell's slot to the new vector `out`, and answers the cell of the new
+/// slot. A free cell gives a free cell.
 fn copy_slot(literals: &[Lit], cell: Cell, out: &mut Vec<Lit>) -> Result<Cell, AllocError>
     requires { IfSome cell (IsPlaced literals.now) }
     ensures clause { IfOk result (λ copy. option_map (clause_at out.new.items) copy ≡ option_map (clause_at literals.now) cell) }
@@ -25,7 +26,8 @@ fn copy_slot(literals: &[Lit], cell: Cell, out: &mut Vec<Lit>) -> Result<Cell, A
     }
 }
 
-/// Appends the clauses of a table of slots to `out`, and their new slots to `copies`.
+/// Appends the clauses of a list of cells to the new vector `out`, and the cells of their new slots
+/// to `copies`, in the same order.
 pub(crate) fn copy_slots(
     literals: &[Lit],
     slots: &[Cell],

@@ -1,4 +1,4 @@
-//! Checks a fragment: a log over a base that closes a cube.
+//! The checker of fragments: logs over a base that close a cube.
 
 ghost use Rattle.std.specs.Prelude.{◌≡◌, ◌⊎◌, Ok, Err, OnOk};
 ghost use Rattle.std.specs.List.{list_all};
@@ -16,10 +16,11 @@ use lrat_text::{StepRef, take_lines};
 use packed_text::{PackedLines, PackedText};
 use std::alloc::Global;
 
-/// The fault of a text whose last step does not close the cube.
+/// The number of the fault of a text whose last step does not close the cube.
 const NOT_CLOSED: u8 = 17;
 
-/// Whether each literal is the negation of one of the cube's.
+/// Answers whether each literal of a lemma is the negation of a literal of the cube, so that the
+/// lemma closes the cube.
 fn negates(cube: &[Lit], lits: &[Lit]) -> bool
     ensures { result ≡ list_all (λ l. has cube.now (negation l)) lits.now }
 {
@@ -31,7 +32,7 @@ fn negates(cube: &[Lit], lits: &[Lit]) -> bool
     true
 }
 
-/// Whether a step adds a lemma that closes the cube.
+/// Answers whether a step adds a lemma that closes the cube: it has only negations of the cube's literals.
 fn is_closing(cube: &[Lit], step: StepRef<'_>) -> bool
     ensures { result ≡ closes cube.now (step_of step.entry) }
 {
@@ -41,14 +42,14 @@ fn is_closing(cube: &[Lit], step: StepRef<'_>) -> bool
     }
 }
 
-/// The answer at the end of a fragment, of which `rest` follows the last LF.
+/// Answers the result at the end of a fragment. `rest` is the text after the last LF.
 fn end(log: &LogChecker, cube: &[Lit], rest: &[u8]) -> Result<(), CheckFault>
     ensures { result ≡ fragment_end cube.now log.now rest.now }
 {
     finish(NOT_CLOSED, is_closing(cube, log.step()), log.line(), rest)
 }
 
-/// Checks the lines of a fragment, and its end.
+/// Checks the lines of a fragment, and then its end.
 fn check_lines(log: &mut LogChecker, cube: &[Lit], fragment: &[u8]) -> Result<(), CheckFault>
     ensures { GivesCheck result (text_from (fragment_end cube.now) log.old fragment.now) }
 {
@@ -56,7 +57,7 @@ fn check_lines(log: &mut LogChecker, cube: &[Lit], fragment: &[u8]) -> Result<()
     end(log, cube, rest)
 }
 
-/// The same, of a packed text.
+/// Checks the lines of a packed fragment, which are unpacked one at a time, and then its end.
 fn check_packed_lines(
     alloc: Global,
     log: &mut LogChecker,
@@ -73,7 +74,7 @@ fn check_packed_lines(
     end(log, cube, &line)
 }
 
-/// Checks that the text is a fragment that closes the cube over the base, or tells its first fault.
+/// Checks whether the text is a fragment that closes the cube over the base, and answers its first fault.
 pub fn check_fragment(
     alloc: Global,
     base: &Base,
@@ -86,11 +87,13 @@ pub fn check_fragment(
     // the first fault, and its line
     ensures exact { GivesCheck result (fragment_of base.now cube.now fragment.now) }
 {
+    let _ = base.vars(); // its contract says that the base is within its limits
     let mut log = LogChecker::over(alloc, base)?;
     check_lines(&mut log, cube, fragment)
 }
 
-/// The same of a packed text. Its lines are unpacked one at a time, so the text never stands whole.
+/// Checks whether the packed text is a fragment that closes the cube over the base, and answers its first fault. Its lines are unpacked one
+/// at a time, so the whole text is never in memory unpacked.
 pub fn check_packed_fragment(
     alloc: Global,
     base: &Base,
@@ -103,6 +106,7 @@ pub fn check_packed_fragment(
     // the first fault, and its line
     ensures exact { GivesCheck result (fragment_of base.now cube.now fragment.now) }
 {
+    let _ = base.vars(); // its contract says that the base is within its limits
     let mut log = LogChecker::over(alloc, base)?;
     check_packed_lines(alloc, &mut log, cube, fragment)
 }

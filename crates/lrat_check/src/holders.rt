@@ -1,5 +1,5 @@
-//! How many live clauses hold each literal. They are counted at the first RAT lemma and the counts kept from then on, so a proof without
-//! RAT lemmas has no counts.
+//! The number of live clauses that hold each literal. They are counted at the first RAT lemma, and the counts are kept from then on; so a
+//! proof without RAT lemmas has no counts.
 
 ghost use Rattle.std.specs.Prelude.{◌≡◌, ◌≤◌, OnOk, slice_index, vec_len};
 ghost use Rattle.std.specs.Bool.{OnTrue};
@@ -14,16 +14,17 @@ use crate::store::Store;
 use dimacs::Lit;
 use std::alloc::{AllocError, Global};
 
-/// How many live clauses hold each literal, from the first question on.
+/// The number of live clauses that hold each literal, once it has been asked for.
 #[derive(Drop)]
 pub(crate) struct Holders {
     /// Whether the counts are kept.
     pub(crate) counting: bool,
+    /// The counts, indexed by literal. They mean something only if `counting` is true.
     pub(crate) counts: Vec<usize>,
 }
 
 impl Holders {
-    /// No counts.
+    /// A table without counts.
     pub(crate) fn new(alloc: Global) -> Holders
         ensures { (M : ClauseMap) → AreCounted M result }
     {
@@ -33,7 +34,9 @@ impl Holders {
         }
     }
 
-    /// Counts the live clauses, unless they are counted already.
+    /// Counts the holders of each literal over all live clauses, if this was not done before: at
+    /// the first RAT lemma. `places` is the length of a table that has an entry for each literal of
+    /// every live clause and for its negation.
     pub(crate) fn count_all(&mut self, store: &Store, places: usize) -> Result<(), AllocError>
         requires fits { AllFit places store.now.live }
         requires counted { AreCounted store.now.live self.old }
@@ -50,7 +53,7 @@ impl Holders {
         Ok(())
     }
 
-    /// The count of a literal.
+    /// Answers the count of a literal.
     pub(crate) fn of(&self, l: Lit) -> usize
         ensures { result ≡ slice_index self.now.counts.items (index_of l) }
     {
@@ -62,7 +65,7 @@ impl Holders {
         }
     }
 
-    /// Grows the counts to at least so many places, if they are kept.
+    /// Grows the table to at least `places` counts, if the counts are kept.
     pub(crate) fn make_places(&mut self, places: usize) -> Result<(), AllocError>
         ensures fits { OnOk result (OnTrue self.new.counting (places ≤ vec_len self.new.counts)) }
         ensures counted { (M : ClauseMap) → AreCounted M self.old → AreCounted M self.new }

@@ -1,4 +1,4 @@
-//! Judges evidence: whether bytes are an assignment that satisfies a formula.
+//! Judging evidence: whether bytes are an assignment that satisfies a formula.
 
 ghost use Rattle.std.specs.Prelude.{◌≡◌, ◌==◌, map, nat_lt, IfOk};
 ghost use Rattle.std.specs.List.{list_all};
@@ -11,29 +11,29 @@ use std::alloc::{AllocError, Global};
 /// What judging evidence found.
 #[derive(Drop)]
 pub enum Judged {
-    /// The evidence is of this verdict, which is right.
+    /// The evidence shows this verdict, which is right.
     Right(Verdict),
-    /// The evidence is of no right verdict.
+    /// The evidence shows no right verdict.
     Wrong,
     /// Memory was refused.
     NoMemory,
 }
 
-/// Whether each byte is 0 or 1.
+/// Answers whether each byte is 0 or 1.
 fn are_truths(values: &[u8]) -> bool
     ensures { result ≡ list_all (λ b. nat_lt b 2) values.now }
 {
     values.iter().all(|b| *b < 2)
 }
 
-/// The truth values of the bytes: true for 1.
+/// Answers the truth values of the bytes: true for 1, false for every other byte.
 fn truths(alloc: Global, values: &[u8]) -> Result<Vec<bool>, AllocError>
     ensures { IfOk result (λ v. v.items ≡ map (λ b. b == 1) values.now) }
 {
     values.iter().map(|b| *b == 1).collect(alloc)
 }
 
-/// Whether the bytes are an assignment that satisfies the formula: one byte for each variable, 1 for true and 0 for false.
+/// Judges whether the bytes are an assignment that satisfies the formula: one byte for each variable, 1 for true and 0 for false.
 pub fn judge_values(alloc: Global, formula: &Formula, values: &[u8]) -> Judged
     ensures { Judges formula.now (AreValuesOf formula.now values.now) result }
 {

@@ -1,4 +1,4 @@
-//! Checks the text of a proof line by line, and tells the line of its first fault.
+//! The checker of a proof's lines: it reads one line after the other, and answers the number of the first line that has a fault.
 
 ghost use Rattle.std.specs.Prelude.{◌≡◌, ◌==◌, ◌≤◌, ◌⊎◌, ◌+◌, ◌^◌, None, OnOk, OnErr, IfErr, MatchResult};
 ghost use Rattle.lrat_check.specs.ProofFaults.{no_memory, text_end};
@@ -7,11 +7,12 @@ ghost use Rattle.lrat_check.specs.inner.LineOutcomes.{LinePasses, LineFails, ste
 
 use crate::checker::Checker;
 use crate::fault::StepFault;
-use lrat_text::{PieceFault, StepBuffer, TakesLines, TextFault, read_line};
+use crate::limit::Limit;
+use lrat_text::{PieceFault, StepBuffer, TakesLines, TextFault, read_line_within};
 use std::alloc::AllocError;
 use thiserror::Error;
 
-/// Why a text is not an accepted proof.
+/// Why a text is no accepted proof, no log, or no fragment that closes the cube.
 #[derive(Clone, Copy, Debug, PartialEq, Eq, Error)]
 #[error("line {line}: fault {number}")]
 pub struct CheckFault {
@@ -19,22 +20,22 @@ pub struct CheckFault {
     /// lemma does not follow by its hints alone; 16: a clause of the base is deleted. In a fragment also 17: the last step does not close
     /// the cube.
     pub number: u8,
-    /// The line, from 1; for 13 and 17 the number of LF bytes plus 1; for 14 it is 0. Of a proof in binary form it is the step, from 1,
-    /// and for 13 the number of steps plus 1.
+    /// The line, from 1; for 13 and 17 the number of LF bytes plus 1; for 14 it is 0. In binary form it is the step, from 1, and for 13 the
+    /// number of steps plus 1.
     pub line: u64,
-    /// The text fault's number, 1 to 4, if `number` is 1; else 0.
+    /// The text fault's number, 1 to 4, if `number` is 1; otherwise 0.
     pub text: u8,
 }
 
 impl CheckFault {
-    /// Whether memory was refused, which says nothing of the text.
+    /// Answers whether memory was refused, which says nothing of the text.
     pub fn is_no_memory(self) -> bool
         ensures { result ≡ (self.number == 14) }
     {
         self.number == 14
     }
 
-    /// Memory was refused.
+    /// The fault of a refusal of memory.
     pub fn no_memory() -> CheckFault
         ensures { result ≡ no_memory }
     {
@@ -45,7 +46,7 @@ impl CheckFault {
         }
     }
 
-    /// The fault of a line that spells no step.
+    /// Answers the fault of a line that spells no step.
     pub fn of_text(fault: TextFault, line: u64) -> CheckFault
         ensures { result ≡ text_refusal fault line }
     {
@@ -59,7 +60,7 @@ impl CheckFault {
         }
     }
 
-    /// The fault of a piece that was not taken to its end.
+    /// Answers the fault of a piece that was not taken to its end.
     pub fn of_piece(fault: PieceFault<CheckFault>) -> CheckFault
         ensures { result ≡ piece_refusal fault }
     {
@@ -78,7 +79,7 @@ impl From<AllocError> for CheckFault {
     }
 }
 
-/// The fault of a line whose step is refused.
+/// Answers the fault of a line whose step has this fault.
 pub(crate) fn step_refused(fault: StepFault, line: u64) -> CheckFault
     ensures { result ≡ step_refusal fault line }
 {
@@ -92,18 +93,19 @@ pub(crate) fn step_refused(fault: StepFault, line: u64) -> CheckFault
     }
 }
 
-/// Reads a line, and takes its step.
+/// Reads a line, whose number is `line`, into the buffer, and gives its step to the checker. Answers the line's first fault.
 pub(crate) fn take_line(
     checker: &mut Checker,
     buffer: &mut StepBuffer,
+    limit: Limit,
     line: u64,
     text: &[u8],
 ) -> Result<(), CheckFault>
     requires { checker.old.fault ≡ None }
-    ensures passed { OnOk result (LinePasses checker.old line text.now checker.new) }
-    ensures stopped { IfErr result (λ f. (f ≡ no_memory) ⊎ LineFails checker.old line text.now f) }
+    ensures passed { OnOk result (LinePasses limit.most checker.old line text.now checker.new) }
+    ensures stopped { IfErr result (λ f. (f ≡ no_memory) ⊎ LineFails limit.most checker.old line text.now f) }
 {
-    match read_line(buffer, text) {
+    match read_line_within(buffer, limit.most, text) {
         Ok(()) => {}
         Err(fault) => return Err(CheckFault::of_text(fault, line)),
     }
@@ -113,7 +115,7 @@ pub(crate) fn take_line(
     }
 }
 
-/// The number of the line after this one. If it does not fit in 64 bits, and only then, the answer is fault 14.
+/// Answers the number of the line after this one. If it does not fit in 64 bits, and only then, the answer is fault 14.
 pub(crate) fn next_line(line: u64) -> Result<u64, CheckFault>
     ensures number { MatchResult result (λ next. next ≡ line + 1) (λ fault. fault ≡ no_memory) }
     ensures only { OnErr result (2 ^ 64 ≤ line + 1) }
@@ -126,9 +128,12 @@ pub(crate) fn next_line(line: u64) -> Result<u64, CheckFault>
 
 /// Takes the lines of a proof, one after the other.
 pub(crate) struct LineChecker {
+    /// The checker of the steps.
     pub(crate) checker: Checker,
+    /// The step of the line that was read last.
     pub(crate) buffer: StepBuffer,
-    /// The number of the next line.
+    pub(crate) limit: Limit,
+    /// The number of the next line, from 1.
     pub(crate) line: u64,
 }
 
@@ -137,6 +142,7 @@ impl Drop for LineChecker {
         let LineChecker {
             checker: _,
             buffer: _,
+            limit: _,
             line: _,
         } = self;
     }
@@ -153,15 +159,22 @@ impl TakesLines for LineChecker {
 
     ghost refuses = { RefusesProofLine };
 
+    /// Reads the next line, and gives its step to the checker.
     fn take_line(&mut self, line: &[u8]) -> Result<(), CheckFault> {
-        take_line(&mut self.checker, &mut self.buffer, self.line, line)?;
+        take_line(
+            &mut self.checker,
+            &mut self.buffer,
+            self.limit,
+            self.line,
+            line,
+        )?;
         self.line = next_line(self.line)?;
         Ok(())
     }
 }
 
-/// The answer at the end of a text, of which `rest` follows the last LF: fault 1 (text fault 2) if that is not empty, `Ok` if the text has
-/// shown what it should, else the fault `number`.
+/// Answers the result at the end of a text, of which `rest` follows the last LF: fault 1 (text fault 2) if `rest` is not empty; otherwise
+/// `Ok` if the text has `shown` what it should; otherwise the fault `number`.
 pub(crate) fn finish(number: u8, shown: bool, line: u64, rest: &[u8]) -> Result<(), CheckFault>
     ensures { result ≡ text_end number shown line rest.now }
 {

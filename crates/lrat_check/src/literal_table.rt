@@ -1,4 +1,4 @@
-//! Tables by literal.
+//! Tables that are indexed by literal.
 
 ghost use Rattle.std.specs.Prelude.{◌≡◌, ℕ, ◌≤◌, slice_index_or, vec_len, OnOk};
 ghost use Rattle.lrat_check.specs.inner.LiteralTable.{FitsTable};
@@ -6,7 +6,7 @@ ghost use Rattle.lrat_check.specs.inner.LiteralTable.{FitsTable};
 use dimacs::Lit;
 use std::alloc::AllocError;
 
-/// The length of a table that has a place for each of the literals and for its negation.
+/// Answers the length of a table that has an entry for each of the literals and for its negation.
 pub(crate) fn places_for(lits: &[Lit]) -> usize
     ensures { FitsTable result lits.now }
 {
@@ -20,7 +20,7 @@ pub(crate) fn places_for(lits: &[Lit]) -> usize
     places
 }
 
-/// Grows a table to at least so many places. A new place is `unset`, as a read after the end gives.
+/// Grows a table to at least `places` entries. A new entry is `unset`, as is the value of a read after the table's end.
 pub(crate) fn grow<T: Copy + Drop>(
     table: &mut Vec<T>,
     places: usize,

@@ -1,4 +1,5 @@
-//! Loads the clauses of a formula: their literals are moved in as they lie, clause after clause.
+//! Loading the clauses of a formula: their literals are moved in as one vector, clause after clause. `places` has the index of each
+//! clause's first literal, and at last the number of all literals.
 
 ghost use Rattle.std.specs.Prelude.{◌≡◌, IfOk, length, vec_len};
 ghost use Rattle.dimacs.specs.layout.Flat.{parts, ArePlaces};
@@ -12,7 +13,7 @@ use crate::slot::Slot;
 use dimacs::Lit;
 use std::alloc::{AllocError, Global};
 
-/// The slots of clauses that begin at these places, numbered from 1; the last place is the end of the last clause.
+/// Makes the near table of the clauses that begin at `places`, numbered from 1.
 pub(crate) fn slots_of(
     alloc: Global,
     literals: &[Lit],
@@ -34,7 +35,7 @@ pub(crate) fn slots_of(
     Ok(near)
 }
 
-/// The live clauses that begin at these places, numbered from 1, and a table of marks for their literals.
+/// Makes the live clauses that begin at `places`, numbered from 1, and a table of marks for their literals.
 pub(crate) fn load(
     alloc: Global,
     literals: Vec<Lit>,

@@ -1,4 +1,4 @@
-//! The clauses of a base, and after them the lemmas of a log.
+//! The live clauses of a log: those of its base, and after them the lemmas that the log adds.
 
 ghost use Rattle.std.specs.Prelude.{◌≡◌, ◌⊎◌, ℕ, ◌≤◌, length, Some, None, OnOk, OnErr, IfOk, IfErr, vec_len};
 ghost use Rattle.std.specs.FinMap.{insert};
@@ -29,14 +29,14 @@ use std::alloc::{AllocError, Global};
 pub(crate) enum LogFault {
     /// A fault that a step of a proof can have too.
     OfStep(StepFault),
-    /// A lemma has a group, or its hints end in no conflict.
+    /// A lemma has a group, or its hints reach no conflict.
     NotRup,
     /// A clause of the base is deleted.
     DeletesBase,
 }
 
 impl LogFault {
-    /// The fault's number.
+    /// Answers the fault's number, 2 to 7 or 14 to 16.
     pub(crate) fn number(self) -> u8
         ensures { result ≡ log_fault_number self }
     {
@@ -48,7 +48,7 @@ impl LogFault {
     }
 }
 
-/// Whether the lemma follows by its hints alone (RUP), without a group.
+/// Tests whether the lemma follows by its hints alone (RUP) and has no group. `stamp` is a stamp that no literal has.
 fn test_rup(
     clauses: &LiveClauses,
     marks: &mut [u64],
@@ -75,7 +75,8 @@ fn test_rup(
     }
 }
 
-/// `test_rup` under a new stamp, after the table of marks has grown to fit the lemma.
+/// Tests whether the lemma follows by its hints alone and has no group: grows the table of marks for the lemma, and calls `test_rup` with a
+/// new stamp.
 pub(crate) fn test_log_lemma(
     clauses: &LiveClauses,
     marks: &mut Marks,
@@ -93,8 +94,9 @@ pub(crate) fn test_log_lemma(
     }
 }
 
-/// Deletes the lemmas of these numbers, from the left, until a number is of the base or not live. After such a fault `cut` is the number
-/// of deleted lemmas, else 0.
+/// Deletes the lemmas of these numbers, from the left, until a number is of the base or not live.
+/// After such a fault `cut` is the number of lemmas that are deleted already (a caller that copies
+/// the log writes a deletion of just these); after `Ok` it is 0.
 fn delete_lemmas(
     clauses: &mut LiveClauses,
     base: u64,
@@ -122,7 +124,8 @@ fn delete_lemmas(
     Ok(())
 }
 
-/// Deletes the live clauses that follow the base, from the greatest number down.
+/// Deletes all lemmas of the log, so that the next one can be checked over the same base: the live
+/// clauses with numbers from `top` down to `base + 1`.
 fn clear_lemmas(clauses: &mut LiveClauses, base: u64, top: u64)
     ensures fewer { NoneNew clauses.old clauses.new }
     ensures behind { (M : ClauseMap) → base ≤ top → ExtendsBase M base top clauses.old → ExtendsBase M base base clauses.new }
@@ -136,17 +139,20 @@ fn clear_lemmas(clauses: &mut LiveClauses, base: u64, top: u64)
 
 /// The live clauses of a base and of a log over it, and the marks that test lemmas.
 pub(crate) struct LogClauses {
+    /// The live clauses, of the base and of the log.
     pub(crate) clauses: LiveClauses,
+    /// The partial assignment for the test of a lemma.
     marks: Marks,
-    /// How many clauses the base has.
+    /// The number of clauses of the base.
     pub(crate) base: u64,
     /// The number of the last addition, or of the base's last clause.
     pub(crate) top: u64,
-    /// How many lemmas a refused deletion deleted before its fault, else 0. It is reset to 0 before each step.
+    /// The number of lemmas that a refused deletion deleted before its fault; 0 after every other step. The caller resets it before each
+    /// step.
     pub(crate) cut: usize,
     ghost fits: { AllFit (vec_len marks.table) clauses },
     ghost rises: { base ≤ top },
-    ghost few: { base ≤ 5000192 },
+    ghost few: { base ≤ 200000190 },
 }
 
 impl Drop for LogClauses {
@@ -162,7 +168,8 @@ impl Drop for LogClauses {
 }
 
 impl LogClauses {
-    /// A base of `count` clauses that begin at these places, numbered from 1, and an empty log.
+    /// The clauses of a base, numbered from 1, and an empty log. `places` has the index of each clause's first literal in `literals`, and
+    /// at last the length of `literals`; `count` is the number of clauses.
     pub(crate) fn of_parts(
         alloc: Global,
         literals: Vec<Lit>,
@@ -170,7 +177,7 @@ impl LogClauses {
         count: u64,
     ) -> Result<LogClauses, AllocError>
         requires places { ArePlaces places.now (vec_len literals) }
-        requires few { count ≤ 5000192 }
+        requires few { count ≤ 200000190 }
         ensures clauses { IfOk result (λ c. c.clauses ≡ numbered (parts literals.items places.now)) }
         ensures top { IfOk result (λ c. c.top ≡ count) }
         ensures base { IfOk result (λ c. c.base ≡ count) }
@@ -186,7 +193,7 @@ impl LogClauses {
         })
     }
 
-    /// Adds a lemma, if its number is the next one and it follows by its hints alone.
+    /// Adds a lemma if its number is `top + 1` and it follows by its hints alone. At a fault the live clauses are as before.
     fn add(&mut self, id: u64, lemma: Lemma<'_>) -> Result<(), LogFault>
         ensures took { OnOk result (log_addition_fault self.old.clauses self.old.top id lemma.entry.lits.now lemma.entry.hints.now lemma.entry.groups.now ≡ None) }
         ensures clauses { OnOk result (self.new.clauses ≡ insert self.old.clauses id lemma.entry.lits.now) }
@@ -210,7 +217,7 @@ impl LogClauses {
         Ok(())
     }
 
-    /// Deletes lemmas of the log.
+    /// Deletes lemmas of the log. At a fault the first `cut` of the lemmas have been deleted.
     fn delete(&mut self, ids: &[u64]) -> Result<(), LogFault>
         requires { self.old.cut ≡ 0 }
         ensures fault { number_in result ≡ log_deletion_fault self.old.base self.old.clauses ids.now }
@@ -224,7 +231,7 @@ impl LogClauses {
         delete_lemmas(&mut self.clauses, self.base, ids, &mut self.cut)
     }
 
-    /// Takes a step.
+    /// Takes a step: adds a lemma or deletes lemmas. A refused deletion has deleted the lemmas of its first `cut` numbers.
     pub(crate) fn take(&mut self, step: StepRef<'_>) -> Result<(), LogFault>
         requires { self.old.cut ≡ 0 }
         ensures took { OnOk result (log_step_fault self.old.base self.old.clauses self.old.top (step_of step.entry) ≡ None) }
@@ -255,7 +262,7 @@ impl LogClauses {
         }
     }
 
-    /// Deletes the lemmas, so that the next log starts after the base again. It takes no memory.
+    /// Deletes all lemmas, so that the next log begins after the base again. It allocates nothing.
     pub(crate) fn begin(&mut self)
         ensures behind { (M : ClauseMap) → ExtendsBase M self.old.base self.old.top self.old.clauses → ExtendsBase M self.new.base self.new.top self.new.clauses }
         ensures top { self.new.top ≡ self.new.base }

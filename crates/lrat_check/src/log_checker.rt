@@ -1,4 +1,4 @@
-//! Checks logs over a formula line by line, one log after the other.
+//! The checker of logs over a formula: it reads line by line, and one log after the other.
 
 ghost use Rattle.std.specs.Prelude.{◌≡◌, ◌⊎◌, ◌+◌, ◌^◌, ◌<◌, ◌≤◌, Ok, Err, OnOk, OnErr, IfOk, IfErr, option_map};
 ghost use Rattle.std.specs.FinMap.{get};
@@ -10,14 +10,15 @@ ghost use Rattle.lrat_check.specs.ProofFaults.{GivesCheck, no_memory};
 ghost use Rattle.lrat_check.specs.Logs.{ExtendsBase, DeletesPrefix, IsBegun, KeepsFormula, RefusesLogLine, SpellsLog, HoldsFormula, TakesLogLine, begun, log_end, log_of, text_from};
 ghost use Rattle.lrat_check.specs.inner.LogStates.{log_refusal, state_of};
 
+use crate::limit::Limit;
 use crate::line_checker::{CheckFault, finish, next_line, step_refused};
 use crate::log::{LogClauses, LogFault};
 use dimacs::{Base, Formula, Lit};
-use lrat_text::{StepBuffer, StepRef, TakesLines, read_line, take_lines};
+use lrat_text::{StepBuffer, StepRef, TakesLines, log_top, read_line_within, take_lines};
 use std::alloc::{AllocError, Global};
 use std::marker::Model;
 
-/// The fault of a line whose step is refused.
+/// Answers the fault of a line whose step has this fault.
 fn refused(fault: LogFault, line: u64) -> CheckFault
     ensures { result ≡ log_refusal fault line }
 {
@@ -31,22 +32,24 @@ fn refused(fault: LogFault, line: u64) -> CheckFault
     }
 }
 
-/// Reads the line of this number, and takes its step.
+/// Reads a line, whose number is `line`, into the buffer, and takes its step. A refused deletion has deleted the lemmas of its first `cut`
+/// numbers.
 fn take_line(
     log: &mut LogClauses,
     buffer: &mut StepBuffer,
+    limit: Limit,
     line: u64,
     text: &[u8],
 ) -> Result<(), CheckFault>
     requires { log.old.cut ≡ 0 }
-    ensures took { OnOk result (TakesLogLine (state_of log.old line buffer.old) text.now (state_of log.new (line + 1) buffer.new)) }
-    ensures refused { IfErr result (RefusesLogLine (state_of log.old line buffer.old) text.now) }
-    ensures cut { OnErr result (DeletesPrefix (state_of log.old line buffer.old) (state_of log.new line buffer.new)) }
+    ensures took { OnOk result (TakesLogLine (state_of limit.most log.old line buffer.old) text.now (state_of limit.most log.new (line + 1) buffer.new)) }
+    ensures refused { IfErr result (RefusesLogLine (state_of limit.most log.old line buffer.old) text.now) }
+    ensures cut { OnErr result (DeletesPrefix (state_of limit.most log.old line buffer.old) (state_of limit.most log.new line buffer.new)) }
     ensures base { log.new.base ≡ log.old.base }
     ensures low { log.old.top < 2 ^ 48 → log.new.top < 2 ^ 48 }
     ensures behind { (M : ClauseMap) → ExtendsBase M log.old.base log.old.top log.old.clauses → ExtendsBase M log.new.base log.new.top log.new.clauses }
 {
-    match read_line(buffer, text) {
+    match read_line_within(buffer, limit.most, text) {
         Ok(()) => {}
         Err(fault) => return Err(CheckFault::of_text(fault, line)),
     }
@@ -56,12 +59,15 @@ fn take_line(
     }
 }
 
-/// Checks logs over a formula. A log adds lemmas that follow by hints alone, numbered without gaps after the formula's clauses, and
-/// deletes live lemmas of its own. It is taken line by line; after `begin` the next one is taken, without loading the formula again.
+/// Checks logs over a formula. A log adds lemmas that follow by hints alone, numbered without gaps after the formula's clauses, and deletes
+/// live lemmas of its own. It is given line by line. After a call of `begin` the next log can be given; the formula is not loaded again.
 pub struct LogChecker {
+    /// The live clauses, of the formula and of the present log.
     log: LogClauses,
+    /// The step of the line that was read last.
     buffer: StepBuffer,
-    /// The number of the next line.
+    limit: Limit,
+    /// The number of the next line of the present log, from 1.
     line: u64,
 }
 
@@ -74,7 +80,7 @@ impl Model for LogChecker {
 
     ghost coded = { Prim.hlevel (codes, clause_map_code) };
 
-    ghost view = { λ s. record { base = s.log.base; live = s.log.clauses; top = s.log.top; line = s.line; step = s.buffer; cut = s.log.cut } };
+    ghost view = { λ s. record { base = s.log.base; live = s.log.clauses; top = s.log.top; line = s.line; step = s.buffer; cut = s.log.cut; most = s.limit.most } };
 
     ghost use Rattle.std.specs.Prelude.{◌<◌, ◌^◌};
 
@@ -88,111 +94,119 @@ impl Drop for LogChecker {
         let LogChecker {
             log: _,
             buffer: _,
+            limit: _,
             line: _,
         } = self;
     }
 }
 
 impl LogChecker {
-    /// A checker of logs over a formula, whose clauses are moved in, numbered from 1. No line of a log was taken.
+    /// A checker, which has read no line, of logs over a formula, which is moved in. Its clauses are numbered from 1.
     pub fn of(alloc: Global, formula: Formula) -> Result<LogChecker, AllocError>
         ensures begun { IfOk result (IsBegun formula) }
         ensures stands { IfOk result (HoldsFormula formula) }
     {
         // Called for its contract: a formula is within the limits.
-        formula.vars();
+        let _ = formula.vars();
+        let most = log_top(formula.as_base());
         let count = formula.len() as u64;
         let (_, literals, places) = formula.into_parts(alloc)?;
         Ok(LogChecker {
             log: LogClauses::of_parts(alloc, literals, &places, count)?,
             buffer: StepBuffer::new(alloc),
+            limit: Limit { most },
             line: 1,
         })
     }
 
-    /// A checker of logs over a base, whose clauses are copied, numbered from 1. No line of a log was taken.
+    /// A checker, which has read no line, of logs over a base, which is copied. Its clauses are numbered from 1.
     pub(crate) fn over(alloc: Global, base: &Base) -> Result<LogChecker, AllocError>
         ensures { IfOk result (λ s. s ≡ begun base.now) }
     {
-        // Called for its contract, as above.
-        base.vars();
+        // Called for its contract: a base is within the limits.
+        let _ = base.vars();
+        let most = log_top(base);
         let (literals, places) = base.copy_parts(alloc)?;
         Ok(LogChecker {
             log: LogClauses::of_parts(alloc, literals, &places, base.len() as u64)?,
             buffer: StepBuffer::new(alloc),
+            limit: Limit { most },
             line: 1,
         })
     }
 
-    /// Starts the next log, also after a fault. It takes no memory, and time in proportion to the numbers that the last log gave.
+    /// Begins the next log, also after a fault: deletes the lemmas of the last log. It allocates nothing, and takes time in proportion to
+    /// the numbers that the last log gave.
     pub fn begin(&mut self)
         ensures begun { (F : Cnf) → HoldsFormula F self.old → IsBegun F self.new }
         ensures stands { KeepsFormula self.old self.new }
         ensures base { self.new.base ≡ self.old.base }
         ensures step { self.new.step ≡ self.old.step }
+        ensures most { self.new.most ≡ self.old.most }
     {
         self.log.begin();
         self.line = 1;
     }
 
-    /// Takes the next line of a log, without its LF, or tells its first fault. After a fault, call `begin`.
+    /// Reads the next line of a log, without its LF, and takes its step, or answers the line's first fault. After a fault, call `begin`.
     ///
-    /// The faults: 1 if the line spells no step; 2 to 7, 15 and 16 of its step; 14 if memory was refused or the line's number does not fit
-    /// in 64 bits. A refused deletion has deleted the lemmas before its fault: `cut` says how many.
+    /// The faults: 1 if the line spells no step; 2 to 7, 15 and 16 of its step; 14 if memory was refused or the next line's number does not
+    /// fit in 64 bits. A refused deletion has deleted the lemmas before its fault: `cut` says how many.
     pub fn take(&mut self, line: &[u8]) -> Result<(), CheckFault>
         ensures took { OnOk result (TakesLogLine self.old line.now self.new) }
         ensures refused { IfErr result (RefusesLogLine self.old line.now) }
         ensures cut { OnErr result (DeletesPrefix self.old self.new) }
         ensures base { self.new.base ≡ self.old.base }
+        ensures most { self.new.most ≡ self.old.most }
         // also if a line is refused
         ensures stands { KeepsFormula self.old self.new }
     {
         self.log.cut = 0;
         let next = next_line(self.line)?;
-        take_line(&mut self.log, &mut self.buffer, self.line, line)?;
+        take_line(&mut self.log, &mut self.buffer, self.limit, self.line, line)?;
         self.line = next;
         Ok(())
     }
 
-    /// The answer at the end of a log's text, of which `rest` follows the last LF: `Ok` if that is empty, else fault 1 (text fault 2) of
-    /// the line that was begun.
+    /// Answers the result at the end of a log's text. `rest` is the text after the last LF: `Ok` if it is empty, otherwise fault 1 (text
+    /// fault 2) of the incomplete line.
     pub fn end(&self, rest: &[u8]) -> Result<(), CheckFault>
         ensures { result ≡ log_end self.now rest.now }
     {
         finish(0, true, self.line, rest)
     }
 
-    /// The step that was read last.
+    /// Lends the step of the line that was read last.
     pub fn step(&self) -> StepRef<'_>
         ensures { step_of result ≡ self.now.step }
     {
         self.buffer.as_ref()
     }
 
-    /// How many lemmas the last refused deletion deleted before its fault: a prefix of `step`'s numbers. It is 0 if the last line was
-    /// taken or is no deletion, and after `begin`.
+    /// Answers how many lemmas the last line deleted before its fault, if it was a refused deletion: those of the first numbers of `step`.
+    /// It is 0 if the last line was taken or is no deletion, and after `begin`.
     pub fn cut(&self) -> usize
         ensures { result ≡ self.now.cut }
     {
         self.log.cut
     }
 
-    /// The live clause of this number.
+    /// Lends the live clause of this number; `None` if there is none.
     pub fn clause(&self, number: u64) -> Option<&[Lit]>
         ensures { option_map (λ c. c.now) result ≡ get self.now.live number }
     {
         self.log.clauses.get(number)
     }
 
-    /// How many clauses the formula has.
+    /// Answers the number of clauses of the formula.
     pub fn base(&self) -> u64
         ensures value { result ≡ self.now.base }
-        ensures few { result ≤ 5000192 }
+        ensures few { result ≤ 200000190 }
     {
         self.log.base
     }
 
-    /// The number of the last addition, or of the formula's last clause if there is none.
+    /// Answers the number of the last addition, or of the formula's last clause if there was no addition.
     pub fn top(&self) -> u64
         ensures value { result ≡ self.now.top }
         ensures rises { self.now.base ≤ result }
@@ -201,7 +215,15 @@ impl LogChecker {
         self.log.top
     }
 
-    /// The number of the next line, from 1.
+    /// Answers the greatest variable that a line may have.
+    pub fn most(&self) -> u32
+        ensures value { result ≡ self.now.most }
+        ensures limit { result ≤ 199999999 }
+    {
+        self.limit.most
+    }
+
+    /// Answers the number of the next line, from 1.
     pub fn line(&self) -> u64
         ensures { result ≡ self.now.line }
     {
@@ -221,12 +243,13 @@ impl TakesLines for LogChecker {
 
     ghost refuses = { RefusesAndKeeps };
 
+    /// Takes the next line of a log, without its LF, or answers its first fault.
     fn take_line(&mut self, line: &[u8]) -> Result<(), CheckFault> {
         self.take(line)
     }
 }
 
-/// Checks the lines of a log, and its end.
+/// Checks the lines of a log, and then its end.
 fn check_lines(log: &mut LogChecker, text: &[u8]) -> Result<(), CheckFault>
     ensures { GivesCheck result (text_from log_end log.old text.now) }
 {
@@ -234,7 +257,7 @@ fn check_lines(log: &mut LogChecker, text: &[u8]) -> Result<(), CheckFault>
     log.end(rest)
 }
 
-/// Checks that the text is a log over the formula, or tells its first fault.
+/// Checks whether the text is a log over the formula, and answers its first fault.
 pub fn check_log(alloc: Global, formula: &Formula, text: &[u8]) -> Result<(), CheckFault>
     ensures log { OnOk result (SpellsLog formula.now text.now) }
     // a log is refused for want of memory alone
@@ -242,6 +265,7 @@ pub fn check_log(alloc: Global, formula: &Formula, text: &[u8]) -> Result<(), Ch
     // the first fault, and its line
     ensures exact { GivesCheck result (log_of formula.now text.now) }
 {
+    let _ = formula.vars(); // its contract says that the formula is within its limits
     let mut log = LogChecker::over(alloc, formula.as_base())?;
     check_lines(&mut log, text)
 }

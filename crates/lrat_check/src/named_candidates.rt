@@ -1,4 +1,4 @@
-//! Tells if two groups of a lemma name the same candidate.
+//! Whether two groups of a lemma name the same candidate.
 
 ghost use Rattle.std.specs.Prelude.{◌≡◌, ℕ, true, false, cond, nat_eq, Ok, OnOk, IfOk};
 ghost use Rattle.std.specs.Bool.{OnTrue, OnFalse};
@@ -10,7 +10,7 @@ use lrat_text::Groups;
 use std::alloc::AllocError;
 use std::collections::BTreeSet;
 
-/// Whether the groups' candidates are strictly increasing.
+/// Answers whether the groups' candidates are strictly increasing.
 pub(crate) fn are_rising(groups: &Groups) -> bool
     ensures { OnTrue result (IsRising 0 groups.now) }
 {
@@ -25,8 +25,8 @@ pub(crate) fn are_rising(groups: &Groups) -> bool
     true
 }
 
-/// Whether an earlier group named the candidate. If the candidates are strictly increasing, as most provers write them, none did, and no
-/// set of them is kept.
+/// Answers whether an earlier group named the candidate, and adds the candidate to `named`. If the candidates are strictly increasing
+/// (`rising`), as most provers write them, no earlier group did, and `named` stays empty.
 pub(crate) fn was_named(
     named: &mut BTreeSet<u64>,
     rising: bool,

@@ -14,14 +14,17 @@ use lrat_text::Groups;
 use std::alloc::{AllocError, Global};
 use std::marker::Model;
 
-/// The number of the fault that memory was refused.
+/// The number of the fault of a refusal of memory.
 const NO_MEMORY: u8 = 14;
 
-/// Live clauses, each under a number that the caller chooses, and the marks that test lemmas over them. Any clause may be put in: the
-/// caller has to ask which ones follow.
+/// Holds live clauses, each under a number that the caller chooses, and tests lemmas over them. Any clause may be put in: the caller has to
+/// ask which ones follow.
 pub struct RupChecker {
+    /// The allocator for the empty list of groups.
     alloc: Global,
+    /// The live clauses.
     clauses: LiveClauses,
+    /// The partial assignment for the test of a lemma.
     marks: Marks,
 }
 
@@ -53,7 +56,7 @@ impl Model for RupChecker {
 }
 
 impl RupChecker {
-    /// No clause is live.
+    /// A checker without a live clause.
     pub fn new(alloc: Global) -> Result<RupChecker, AllocError>
         ensures { IfOk result (λ s. s ≡ from_entries []) }
     {
@@ -65,7 +68,7 @@ impl RupChecker {
         })
     }
 
-    /// The live clause of this number.
+    /// Lends the live clause of this number; `None` if there is none.
     #[inline(always)]
     pub fn clause(&self, number: u64) -> Option<&[Lit]>
         ensures { option_map (λ c. c.now) result ≡ get self.now number }
@@ -73,8 +76,8 @@ impl RupChecker {
         self.clauses.get(number)
     }
 
-    /// The number of the first fault of a lemma that is to follow by these hints, as a checker of logs tells it: 3 to 7 or 15; none if the
-    /// lemma follows.
+    /// Answers the number of the first fault of a lemma that is to follow by these hints: 3 to 7 or 15, as for a lemma of a log; `None` if
+    /// the lemma follows.
     pub fn fault(&mut self, lits: &[Lit], hints: &[u64]) -> Result<Option<u8>, AllocError>
         ensures fault { IfOk result (λ f. f ≡ log_lemma_fault self.old lits.now hints.now []) }
         ensures same { self.new ≡ self.old }
@@ -97,7 +100,8 @@ impl RupChecker {
         }
     }
 
-    /// Puts a clause under a number. It replaces the one that is live there, if any.
+    /// Puts a clause under a number. It replaces the clause that is live under this number, if any. If memory is refused, the live clauses
+    /// are as before.
     pub fn put(&mut self, number: u64, lits: &[Lit]) -> Result<(), AllocError>
         ensures ok { OnOk result (self.new ≡ insert self.old number lits.now) }
         ensures err { OnErr result (self.new ≡ self.old) }
@@ -106,7 +110,7 @@ impl RupChecker {
         self.clauses.insert(number, lits)
     }
 
-    /// Deletes a clause, and says whether one was live under the number.
+    /// Deletes the clause of this number, and answers whether it was live.
     pub fn remove(&mut self, number: u64) -> bool
         ensures live { result ≡ is_some (get self.old number) }
         ensures after { self.new ≡ remove self.old number }

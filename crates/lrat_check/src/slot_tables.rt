@@ -1,6 +1,6 @@
-//! Tables of slots by clause number. Numbers that follow each other closely, as those of the formula and of most proofs do, are places of
-//! a table of blocks (`near`). A number that is far above them is found by an ordered map (`far`), so it takes no more memory than any
-//! other.
+//! Tables of slots by clause number. Numbers that follow each other closely, as those of the formula and of most proofs do, are indices of
+//! the near table, which is made of blocks. A number that is far above them is found by an ordered map, the far table, so it takes no more
+//! memory than any other.
 
 ghost use Rattle.std.specs.Prelude.{◌≡◌, ℕ, ◌+◌, ◌≤◌, ◌<◌, ◌-◌, ◌++◌, ◌∷◌, ◌^◌, length, OnOk, OnErr, IfOk, IfSome, option_map, Some, cond, slice_index_or, [], vec_len};
 ghost use Rattle.std.specs.FinMap.{get, insert, remove, len};
@@ -14,17 +14,19 @@ use dimacs::Lit;
 use std::alloc::{AllocError, Global};
 use std::collections::BTreeMap;
 
-/// The slots of numbers that are far from the others.
+/// The far table: the slots of the numbers that are far above the others.
 #[derive(Drop)]
 pub(crate) struct Far {
-    /// The place in `slots` of each number.
+    /// The index in `slots` of each number that has a slot.
     pub(crate) places: BTreeMap<u64, usize>,
+    /// The number of each cell of `slots`.
     pub(crate) numbers: Vec<u64>,
+    /// The cells; one is free if its clause was deleted.
     pub(crate) slots: Vec<Cell>,
 }
 
 impl Far {
-    /// No slot.
+    /// A far table without numbers.
     pub(crate) fn new(alloc: Global) -> Far
         ensures places { result.places.entries ≡ [] }
         ensures numbers { result.numbers.items ≡ [] }
@@ -37,7 +39,7 @@ impl Far {
         }
     }
 
-    /// Puts a slot under a new number.
+    /// Puts a slot under a number that has none. If memory is refused, the table is as before.
     fn add(&mut self, id: u64, slot: Slot) -> Result<(), AllocError>
         requires { slot.place < 2 ^ 64 - 1 }
         ensures places { OnOk result ((q : ℕ) → place_of self.new q ≡ cond (is_at (nat_cmp id) q) (Some (length self.old.slots.items)) (place_of self.old q)) }
@@ -55,7 +57,7 @@ impl Far {
     }
 }
 
-/// The literals at a slot.
+/// Lends the literals at a slot.
 #[inline(always)]
 pub(crate) fn clause_of(literals: &[Lit], slot: Slot) -> &[Lit]
     requires { IsPlaced literals.now slot }
@@ -64,7 +66,7 @@ pub(crate) fn clause_of(literals: &[Lit], slot: Slot) -> &[Lit]
     &literals[slot.place..slot.place + slot.len]
 }
 
-/// The clause whose slot stands at a place, if there is one.
+/// Lends the clause whose slot is in the cell of index `place`; `None` if the cell is free.
 #[inline(always)]
 fn clause_in<'a>(literals: &'a [Lit], slots: &[Cell], place: usize) -> Option<&'a [Lit]>
     requires here { place < length slots.now }
@@ -77,7 +79,7 @@ fn clause_in<'a>(literals: &'a [Lit], slots: &[Cell], place: usize) -> Option<&'
     }
 }
 
-/// Appends literals, and gives their slot.
+/// Appends a clause's literals to the vector of all literals, and answers their slot. If memory is refused, the vector is as before.
 pub(crate) fn append(literals: &mut Vec<Lit>, lits: &[Lit]) -> Result<Slot, AllocError>
     ensures ok { IfOk result (λ s. (s.place ≡ vec_len literals.old) × (s.len ≡ length lits.now) × (literals.new.items ≡ literals.old.items ++ lits.now)) }
     ensures err { OnErr result (literals.new.items ≡ literals.old.items) }
@@ -90,17 +92,21 @@ pub(crate) fn append(literals: &mut Vec<Lit>, lits: &[Lit]) -> Result<Slot, Allo
     })
 }
 
-/// The same slots: that they are a slice bounds how many there are.
+/// Answers the same cells as a slice: the contract of a slice bounds its length, which proofs need.
+/// It does nothing at run time.
 pub(crate) fn whole(slots: &[Cell]) -> &[Cell]
     ensures { result.now ≡ slots.now }
 {
     slots
 }
 
-/// The literals of clauses, and where each clause stands among them.
+/// The literals of clauses, and the slot of each clause number.
 pub(crate) struct SlotTables {
+    /// The literals of all clauses, also dead ones, clause after clause.
     pub(crate) literals: Vec<Lit>,
+    /// The near table: the slots of the numbers below its length, by number.
     pub(crate) near: Blocks,
+    /// The far table: the slots of the numbers from the near table's length on.
     pub(crate) far: Far,
 }
 
@@ -115,7 +121,7 @@ impl Drop for SlotTables {
 }
 
 impl SlotTables {
-    /// The clause of a number.
+    /// Lends the clause of a number; `None` if it has no slot.
     #[inline(always)]
     pub(crate) fn find(&self, id: u64) -> Option<&[Lit]>
         requires { IsStore (tables_of self.now) }
@@ -130,7 +136,7 @@ impl SlotTables {
         }
     }
 
-    /// Grows the table by number to this place, by whole blocks of free places.
+    /// Grows the near table by whole blocks of free cells until it has the index `place`.
     fn make_place(&mut self, place: usize) -> Result<(), AllocError>
         requires store { IsStore (tables_of self.old) }
         requires all_near { self.old.far.slots.items ≡ [] }
@@ -140,12 +146,12 @@ impl SlotTables {
         ensures store { IsStore (tables_of self.new) }
     {
         while self.near.len() <= place {
-            self.near.grow()?;
+            self.near.push_block()?;
         }
         Ok(())
     }
 
-    /// Puts a slot at a place, and gives the slot that was there.
+    /// Puts a slot into the near table at index `place`, and answers the slot that was there, if any.
     fn put_near(&mut self, place: usize, slot: Slot) -> Result<Option<Slot>, AllocError>
         requires store { IsStore (tables_of self.old) }
         requires here { place < length self.old.near }
@@ -162,7 +168,7 @@ impl SlotTables {
         Ok(old)
     }
 
-    /// Puts a slot under a number after the table's end, and gives the slot that the number had.
+    /// Puts a slot into the far table under a number, and answers the slot that the number had, if any.
     fn put_far(&mut self, id: u64, slot: Slot) -> Result<Option<Slot>, AllocError>
         requires store { IsStore (tables_of self.old) }
         requires beyond { length self.old.near ≤ id }
@@ -188,7 +194,7 @@ impl SlotTables {
         }
     }
 
-    /// Frees a place, and gives the slot that was there.
+    /// Frees the cell of the near table at index `place`, and answers the slot that was there, if any.
     fn take_near(&mut self, place: usize) -> Option<Slot>
         requires store { IsStore (tables_of self.old) }
         requires here { place < length self.old.near }
@@ -203,7 +209,7 @@ impl SlotTables {
         old
     }
 
-    /// Takes out the slot of a number after the table's end.
+    /// Removes a number from the far table, and answers the slot that it had, if any.
     fn take_far(&mut self, id: u64) -> Option<Slot>
         requires store { IsStore (tables_of self.old) }
         requires beyond { length self.old.near ≤ id }
@@ -223,7 +229,7 @@ impl SlotTables {
         }
     }
 
-    /// Puts a slot under a number, and gives the slot that it had.
+    /// Puts a slot under a number, and answers the slot that the number had, if any.
     pub(crate) fn put(&mut self, id: u64, slot: Slot) -> Result<Option<Slot>, AllocError>
         requires store { IsStore (tables_of self.old) }
         requires placed { IsPlaced self.old.literals.items slot }
@@ -242,7 +248,7 @@ impl SlotTables {
         }
     }
 
-    /// Takes out the slot of a number, if it has one.
+    /// Removes the slot of a number, and answers it; `None` if the number had none.
     pub(crate) fn take(&mut self, id: u64) -> Option<Slot>
         requires { IsStore (tables_of self.old) }
         ensures literals { self.new.literals.items ≡ self.old.literals.items }
@@ -259,8 +265,8 @@ impl SlotTables {
         }
     }
 
-    /// Grows the table for a number that follows the others closely: one below 4 * (`taken` + 8,192), if `taken` clauses were ever put in.
-    /// Once a number is in the map, the table does not grow.
+    /// Grows the near table for a number that follows the others closely: one below 4 * (`taken` + 8,192), if `taken` clauses were ever put
+    /// in. After the far table has got its first number, the near table does not grow.
     pub(crate) fn reserve_place(&mut self, taken: u64, id: u64) -> Result<(), AllocError>
         requires { IsStore (tables_of self.old) }
         ensures literals { self.new.literals.items ≡ self.old.literals.items }
@@ -273,11 +279,12 @@ impl SlotTables {
         Ok(())
     }
 
-    /// For proofs: bounds the number of live clauses. It does nothing.
+    /// A step of proofs: its contract bounds the number of live clauses. It does nothing at run
+    /// time.
     pub(crate) fn bound_len(&self)
         ensures { len (live_of (tables_of self.now)) < 2 ^ 63 }
     {
-        self.near.bound_len();
+        let _ = self.near.bound_len();
         let _far = whole(&self.far.slots);
     }
 }

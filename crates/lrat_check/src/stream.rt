@@ -1,4 +1,4 @@
-//! Checks the text of a proof, whole or in any pieces.
+//! The checker of a proof's text, whole or in pieces of any length.
 
 ghost use Rattle.std.specs.Prelude.{◌≡◌, ◌⊎◌, [], None, Ok, Err, OnOk, IfOk, MatchResult};
 ghost use Rattle.lrat_text.specs.Lines.{IsOpen};
@@ -9,16 +9,17 @@ ghost use Rattle.lrat_check.specs.Stream.{Within, Failed, check_more, has_failed
 ghost use Rattle.lrat_check.specs.inner.Stream.{LeadsTo};
 
 use crate::checker::Checker;
+use crate::limit::Limit;
 use crate::line_checker::{CheckFault, LineChecker, finish};
 use dimacs::Formula;
-use lrat_text::{LineBuffer, StepBuffer, reading_is_spelling};
+use lrat_text::{LineBuffer, StepBuffer, proof_top, reading_within_is_spelling};
 use std::alloc::{AllocError, Global};
 use std::marker::Model;
 
-/// The fault of a text if no line adds the empty clause.
+/// The number of the fault of a text of which no line adds the empty clause.
 const NOT_REFUTED: u8 = 13;
 
-/// Takes a piece, which follows the bytes of the line that is begun.
+/// Reads a piece, which continues the incomplete line `begun`, and checks the lines that are complete now.
 fn take_piece(
     begun: &mut LineBuffer,
     lines: &mut LineChecker,
@@ -26,8 +27,8 @@ fn take_piece(
 ) -> Result<(), CheckFault>
     requires { lines.old.checker.fault ≡ None }
     ensures taken { MatchResult result
-        (λ _. (lines.new.checker.fault ≡ None) × LeadsTo (Within lines.old.checker lines.old.line begun.old) piece.now (Within lines.new.checker lines.new.line begun.new))
-        (λ fault. (fault ≡ no_memory) ⊎ LeadsTo (Within lines.old.checker lines.old.line begun.old) piece.now (Failed fault)) }
+        (λ _. (lines.new.checker.fault ≡ None) × LeadsTo (Within lines.old.limit.most lines.old.checker lines.old.line begun.old) piece.now (Within lines.new.limit.most lines.new.checker lines.new.line begun.new))
+        (λ fault. (fault ≡ no_memory) ⊎ LeadsTo (Within lines.old.limit.most lines.old.checker lines.old.line begun.old) piece.now (Failed fault)) }
     ensures open { IsOpen begun.new }
 {
     match begun.feed(piece, lines) {
@@ -36,10 +37,13 @@ fn take_piece(
     }
 }
 
-/// Checks a proof's text that comes in pieces. Of the text it keeps the line that is begun, and nothing else.
+/// Checks a proof's text that comes in pieces. Of the text it stores only the incomplete line.
 pub struct StreamChecker {
+    /// The checker of complete lines.
     lines: LineChecker,
+    /// The incomplete line.
     begun: LineBuffer,
+    /// The first fault, once it was met; also a refusal of memory.
     fault: Option<CheckFault>,
 }
 
@@ -63,28 +67,30 @@ impl Model for StreamChecker {
 
     ghost coded = { Prim.hlevel (codes, clause_map_code) };
 
-    ghost view = { λ s. progress_of s.fault s.lines.checker s.lines.line s.begun };
+    ghost view = { λ s. progress_of s.fault s.lines.limit.most s.lines.checker s.lines.line s.begun };
 
     ghost invariant = { λ s. FaultIsKept s.fault s.lines.checker s.begun };
 }
 
 impl StreamChecker {
-    /// A checker that has taken no byte of a proof of the formula, which is copied.
+    /// A checker, which has read no byte, of a proof of the formula, which is copied.
     pub fn new(alloc: Global, formula: &Formula) -> Result<StreamChecker, AllocError>
         ensures { IfOk result (λ s. HasTaken formula.now s []) }
     {
         StreamChecker::of(alloc, formula.copy()?)
     }
 
-    /// The same, of a formula that is moved in.
+    /// A checker, which has read no byte, of a proof of the formula, which is moved in.
     pub fn of(alloc: Global, formula: Formula) -> Result<StreamChecker, AllocError>
         ensures { IfOk result (λ s. HasTaken formula s []) }
     {
+        let most = proof_top(&formula);
         let checker = Checker::of(alloc, formula)?;
         Ok(StreamChecker {
             lines: LineChecker {
                 checker,
                 buffer: StepBuffer::new(alloc),
+                limit: Limit { most },
                 line: 1,
             },
             begun: LineBuffer::new(alloc),
@@ -92,7 +98,7 @@ impl StreamChecker {
         })
     }
 
-    /// Takes the next piece, or tells the first fault of the lines that are complete by now. After a fault each call answers that fault.
+    /// Reads the next piece, and answers the first fault of the lines that are complete now. After a fault each call answers that fault.
     pub fn feed(&mut self, piece: &[u8]) -> Result<(), CheckFault>
         ensures taken { TakesPiece self.old piece.now result self.new }
         ensures open { IsWithinLine self.new }
@@ -109,14 +115,14 @@ impl StreamChecker {
         }
     }
 
-    /// Whether a fault was met or memory was refused: then no further byte changes what `finish` answers.
+    /// Answers whether a fault was met or memory was refused. Then no further byte changes what `finish` answers.
     pub fn is_settled(&self) -> bool
         ensures { result ≡ has_failed self.now }
     {
         self.fault.is_some()
     }
 
-    /// The answer if no further byte comes. It takes no memory.
+    /// Answers the result of the check if no further byte comes. It allocates nothing.
     pub fn finish(&self) -> Result<(), CheckFault>
         ensures { result ≡ check_more self.now [] }
     {
@@ -132,7 +138,7 @@ impl StreamChecker {
     }
 }
 
-/// Feeds a text, and finishes.
+/// Checks a whole text as a proof of the formula.
 fn check_all(alloc: Global, formula: &Formula, proof: &[u8]) -> Result<(), CheckFault>
     ensures { GivesCheck result (check_of formula.now proof.now) }
 {
@@ -143,7 +149,7 @@ fn check_all(alloc: Global, formula: &Formula, proof: &[u8]) -> Result<(), Check
     stream.finish()
 }
 
-/// Checks the text that these pieces make, however it was cut.
+/// Checks the text of which these are the pieces as a proof that the formula is unsatisfiable, and answers its first fault.
 pub fn check_pieces(alloc: Global, formula: &Formula, pieces: &[Vec<u8>]) -> Result<(), CheckFault>
     ensures { GivesCheck result (check_of formula.now (joined pieces.now)) }
 {
@@ -156,7 +162,7 @@ pub fn check_pieces(alloc: Global, formula: &Formula, pieces: &[Vec<u8>]) -> Res
     stream.finish()
 }
 
-/// Checks that the text is an accepted proof that the formula is unsatisfiable, or tells its first fault.
+/// Checks whether the text is an accepted proof that the formula is unsatisfiable, and answers its first fault.
 ///
 /// Lines after the one that adds the empty clause need only be well spelled.
 pub fn check(alloc: Global, formula: &Formula, proof: &[u8]) -> Result<(), CheckFault>
@@ -167,6 +173,7 @@ pub fn check(alloc: Global, formula: &Formula, proof: &[u8]) -> Result<(), Check
     ensures exact { GivesCheck result (check_of formula.now proof.now) }
 {
     // A theorem: what was read is what the text spells. It does nothing.
-    reading_is_spelling();
+    reading_within_is_spelling();
+    let _ = formula.vars(); // its contract says that the formula is within its limits
     check_all(alloc, formula, proof)
 }

@@ -1,4 +1,4 @@
-//! Writing the numbers of a step in binary form, as unsigned LEB128.
+//! Writers of the numbers of a step in binary form. If memory is refused, each may have appended a prefix of its bytes.
 
 ghost use Rattle.std.specs.Prelude.{◌∷◌, [], ◌^◌, ◌<◌, All, OnOk, map};
 ghost use Rattle.std.specs.List.{flat_map};
@@ -24,7 +24,7 @@ pub(crate) fn put_code(out: &mut Vec<u8>, code: u64) -> Result<(), AllocError>
     Ok(())
 }
 
-/// Appends the codes of literals.
+/// Appends the codes of literals: 2v for the variable v, 2v + 1 if it is negated.
 pub(crate) fn put_literals(out: &mut Vec<u8>, lits: &[Lit]) -> Result<(), AllocError>
     ensures { OnOk result (Adds out.old.items out.new.items (map index_of lits.now)) }
 {
@@ -34,7 +34,7 @@ pub(crate) fn put_literals(out: &mut Vec<u8>, lits: &[Lit]) -> Result<(), AllocE
     Ok(())
 }
 
-/// Appends the codes of clause numbers.
+/// Appends the codes of clause numbers: 2n for the number n.
 pub(crate) fn put_numbers(out: &mut Vec<u8>, numbers: &[u64]) -> Result<(), AllocError>
     requires { All IsClauseNumber numbers.now }
     ensures { OnOk result (Adds out.old.items out.new.items (map clause_code numbers.now)) }
@@ -45,7 +45,7 @@ pub(crate) fn put_numbers(out: &mut Vec<u8>, numbers: &[u64]) -> Result<(), Allo
     Ok(())
 }
 
-/// Appends the codes of a candidate and its hints.
+/// Appends the codes of a group: 2n + 1 for its candidate n, then the codes of its hints.
 fn put_group(out: &mut Vec<u8>, candidate: u64, hints: &[u64]) -> Result<(), AllocError>
     requires { IsGroup (candidate, hints.now) }
     ensures { OnOk result (Adds out.old.items out.new.items (group_codes (candidate, hints.now))) }
@@ -54,7 +54,7 @@ fn put_group(out: &mut Vec<u8>, candidate: u64, hints: &[u64]) -> Result<(), All
     put_numbers(out, hints)
 }
 
-/// Appends the codes of groups.
+/// Appends the codes of all groups.
 pub(crate) fn put_groups(out: &mut Vec<u8>, groups: &Groups) -> Result<(), AllocError>
     requires { All IsGroup groups.now }
     ensures { OnOk result (Adds out.old.items out.new.items (flat_map group_codes groups.now)) }

@@ -8,6 +8,7 @@ mod binary_form;
 mod codes;
 mod first_byte;
 mod laws;
+mod limit;
 mod limits;
 mod line_writer;
 mod step_encoder;

@@ -1,19 +1,20 @@
-//! Encoding of steps in the binary form.
+//! The encoder of steps in the binary form. If memory is refused, each function may have appended a prefix of its bytes.
 
 ghost use Rattle.std.specs.Prelude.{◌++◌, ◌∷◌, [], All, OnOk, map};
 ghost use Rattle.std.specs.List.{flat_map};
-ghost use Rattle.lrat_text.specs.Grammar.{IsClauseNumber, IsGroup, IsStep};
+ghost use Rattle.lrat_text.specs.Grammar.{IsClauseNumber, IsGroup, IsStep, IsStepWithin};
 ghost use Rattle.lrat_text.specs.Steps.{step_of};
 ghost use Rattle.lrat_text.specs.declared.step.Step.TheVariants.{Add, Delete};
 ghost use Rattle.lrat_binary.specs.Grammar.{clause_code, group_codes, step_codes};
 ghost use Rattle.lrat_forms.specs.inner.Codes.{Adds, AddsStep};
 
 use crate::codes::{put_code, put_groups, put_literals, put_numbers};
+use crate::limit::Limit;
 use dimacs::Lit;
 use lrat_text::{Groups, StepRef};
 use std::alloc::AllocError;
 
-/// Appends the codes of an addition's hints and groups, and the closing 0.
+/// Appends the codes of an addition's hints and groups, and the 0 that ends them.
 fn put_reasons(out: &mut Vec<u8>, hints: &[u64], groups: &Groups) -> Result<(), AllocError>
     requires hints { All IsClauseNumber hints.now }
     requires groups { All IsGroup groups.now }
@@ -24,15 +25,16 @@ fn put_reasons(out: &mut Vec<u8>, hints: &[u64], groups: &Groups) -> Result<(), 
     put_code(out, 0)
 }
 
-/// Appends the codes of an addition.
+/// Appends the codes of an addition, without its letter.
 fn put_addition(
     out: &mut Vec<u8>,
+    limit: Limit,
     id: u64,
     lits: &[Lit],
     hints: &[u64],
     groups: &Groups,
 ) -> Result<(), AllocError>
-    requires { IsStep (Add id lits.now hints.now groups.now) }
+    requires { IsStepWithin limit.most (Add id lits.now hints.now groups.now) }
     ensures { OnOk result (Adds out.old.items out.new.items (step_codes (Add id lits.now hints.now groups.now))) }
 {
     put_code(out, 2 * id)?;
@@ -41,7 +43,7 @@ fn put_addition(
     put_reasons(out, hints, groups)
 }
 
-/// Appends the codes of a deletion.
+/// Appends the codes of a deletion, without its letter.
 fn put_deletion(out: &mut Vec<u8>, ids: &[u64]) -> Result<(), AllocError>
     requires { IsStep (Delete ids.now) }
     ensures { OnOk result (Adds out.old.items out.new.items (step_codes (Delete ids.now))) }
@@ -50,10 +52,10 @@ fn put_deletion(out: &mut Vec<u8>, ids: &[u64]) -> Result<(), AllocError>
     put_code(out, 0)
 }
 
-/// Appends a step: its letter, then its codes.
-pub(crate) fn put_step(out: &mut Vec<u8>, step: StepRef<'_>) -> Result<(), AllocError>
-    requires { IsStep (step_of step) }
-    ensures { OnOk result (AddsStep out.old.items out.new.items (step_of step.entry)) }
+/// Appends a step with variables up to the limit: the letter `a` or `d`, then its codes.
+pub(crate) fn put_step(out: &mut Vec<u8>, limit: Limit, step: StepRef<'_>) -> Result<(), AllocError>
+    requires { IsStepWithin limit.most (step_of step) }
+    ensures { OnOk result (AddsStep limit.most out.old.items out.new.items (step_of step.entry)) }
 {
     match step {
         StepRef::Add {
@@ -63,7 +65,7 @@ pub(crate) fn put_step(out: &mut Vec<u8>, step: StepRef<'_>) -> Result<(), Alloc
             groups,
         } => {
             out.push(b'a')?;
-            put_addition(out, id, lits, hints, groups)
+            put_addition(out, limit, id, lits, hints, groups)
         }
         StepRef::Delete { ids } => {
             out.push(b'd')?;

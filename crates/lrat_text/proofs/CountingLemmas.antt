@@ -1,5 +1,5 @@
 -- A fresh log that deletes nothing has at most as many lemmas as there are clauses without a complementary pair.
-use Rattle.std.proofs.Common.{zero, suc, ◌≡◌, ℕ, ◌+◌, ◌*◌, ◌^◌, ◌<◌, ◌≤◌, inl, inr, Bool, true, false, cond, eqb, List, [], ◌∷◌, length, Result, Ok, refl, sym, ◌∙◌, ap, subst, arith}
+use Rattle.std.proofs.Common.{zero, suc, ◌≡◌, ℕ, ◌+◌, ◌*◌, ◌^◌, ◌<◌, ◌≤◌, max, inl, inr, Bool, true, false, cond, eqb, List, [], ◌∷◌, length, Result, Ok, refl, sym, ◌∙◌, ap, subst, arith}
 use Rattle.std.specs.List.{All, Contains, IsDistinct, AllByRecursion, list_any}
 use Rattle.std.specs.FinMap.{insert, len}
 use Rattle.std.proofs.lemmas.Bool.{true≢false, cases_Bool, cases_eq, eqb-true, or_left, or_right, or_cases}
@@ -12,15 +12,15 @@ use Rattle.dimacs.specs.logic.Cnf.{Cnf}
 use Rattle.dimacs.specs.logic.ClauseMap.{ClauseMap, live_in, map_of}
 use Rattle.dimacs.specs.text.Words.{lines}
 use Rattle.dimacs.proofs.Members.{has-Contains, Contains-has}
-use Rattle.lrat_text.specs.Grammar.{LineSpells}
-use Rattle.lrat_text.specs.Lines.{AllRead}
-use Rattle.lrat_text.specs.Log.{AreLogSteps, IsLog, IsHonest, AreFresh, IsNew, additions}
-use Rattle.lrat_text.specs.Parser.{step_in}
+use Rattle.lrat_text.specs.Grammar.{LineSpells, LineSpellsWithin}
+use Rattle.lrat_text.specs.Lines.{AllReadWithin}
+use Rattle.lrat_text.specs.Log.{log_top, AreLogSteps, IsLog, IsHonest, AreFresh, IsNew, additions}
+use Rattle.lrat_text.specs.Parser.{step_within}
 use Rattle.lrat_text.specs.declared.fault.TextFault.{TextFault}
 use Rattle.lrat_text.specs.declared.step.Step.{Step}
 use Rattle.lrat_text.specs.declared.step.Step.TheVariants.{Add, Delete}
 use Rattle.lrat_text.proofs.ClauseMapLemmas.{get_here, get_other, len_more, len-numbered, numbered_between}
-use Rattle.lrat_text.proofs.LineLemmas.{spelled_read}
+use Rattle.lrat_text.proofs.LineLemmas.{spelled_read_within, spells_more}
 
 -- ---- a clause as a number in base three
 -- 1 where the clause holds the variable, 2 where it holds its negation, 0 where it holds neither
@@ -173,22 +173,37 @@ few_additions B steps six l f =
 one_step : (r : Result Step TextFault) (s t : Step) → r ≡ Ok s → r ≡ Ok t → s ≡ t
 one_step r s t h k = cc
 
-read_once : (pieces : List (List ℕ)) (steps others : List Step) → AllRead pieces steps → AllRead pieces others → steps ≡ others
-read_once [] steps others h k = absurd h
-read_once (last ∷ []) steps others h k = h.1 ∙ sym k.1
-read_once (piece ∷ next ∷ pieces) [] others h k = absurd h
-read_once (piece ∷ next ∷ pieces) (s ∷ steps) [] h k = absurd k
-read_once (piece ∷ next ∷ pieces) (s ∷ steps) (t ∷ others) h k =
-    let e = one_step (step_in piece) s t h.0 k.0 in
-    let f = read_once (next ∷ pieces) steps others h.1 k.1 in
+read_once : (most : ℕ) (pieces : List (List ℕ)) (steps others : List Step) → AllReadWithin most pieces steps → AllReadWithin most pieces others → steps ≡ others
+read_once most [] steps others h k = absurd h
+read_once most (last ∷ []) steps others h k = h.1 ∙ sym k.1
+read_once most (piece ∷ next ∷ pieces) [] others h k = absurd h
+read_once most (piece ∷ next ∷ pieces) (s ∷ steps) [] h k = absurd k
+read_once most (piece ∷ next ∷ pieces) (s ∷ steps) (t ∷ others) h k =
+    let e = one_step (step_within most piece) s t h.0 k.0 in
+    let f = read_once most (next ∷ pieces) steps others h.1 k.1 in
     ap (λ x. x ∷ steps) e ∙ ap (λ xs. t ∷ xs) f
 
-pub one_list : (text : List ℕ) (steps others : List Step) → LineSpells text steps → LineSpells text others → steps ≡ others
-one_list text steps others h k = read_once (lines text) steps others (spelled_read text steps h) (spelled_read text others k)
+pub one_list_within : (most : ℕ) → most < 2 ^ 48 → (text : List ℕ) (steps others : List Step) → LineSpellsWithin most text steps → LineSpellsWithin most text others → steps ≡ others
+one_list_within most few text steps others h k = read_once most (lines text) steps others (spelled_read_within most few text steps h) (spelled_read_within most few text others k)
 
-pub few_lemmas : (B : Cnf) (n : ℕ) (text : List ℕ) (steps : List Step) → B.vars ≤ 6 → IsHonest B n text → LineSpells text steps → AreFresh B (map_of B) steps → n ≤ 3 ^ B.vars
-few_lemmas B n text steps six h spells fresh =
-    let e = one_list text steps h.0 spells h.1 in
+-- whatever the limits of the two lists are
+pub one_list_under : (a b : ℕ) → a < 2 ^ 48 → b < 2 ^ 48 → (text : List ℕ) (steps others : List Step) → LineSpellsWithin a text steps → LineSpellsWithin b text others → steps ≡ others
+one_list_under a b few_a few_b text steps others h k =
+    one_list_within (max a b) (omega arith) text steps others (spells_more a (max a b) (omega arith) text steps h) (spells_more b (max a b) (omega arith) text others k)
+
+pub one_list : (text : List ℕ) (steps others : List Step) → LineSpells text steps → LineSpells text others → steps ≡ others
+one_list text steps others h k = one_list_within 2000000 (omega arith) text steps others h k
+
+pub few_lemmas_within : (most : ℕ) → most < 2 ^ 48 → (B : Cnf) (n : ℕ) (text : List ℕ) (steps : List Step) → B.vars ≤ 6 → IsHonest B n text → LineSpellsWithin most text steps → AreFresh B (map_of B) steps → n ≤ 3 ^ B.vars
+few_lemmas_within most few B n text steps six h spells fresh =
+    let few_vars : max 2000000 B.vars < 2 ^ 48 = omega arith in
+    let e = one_list_under most (log_top B) few few_vars text steps h.0 spells h.1 in
     let r = few_additions B h.0 six h.2 (subst (AreFresh B (map_of B)) e fresh) in
     let c = h.3 in
     omega arith
+
+-- the same within the base's limit
+pub few_lemmas : (B : Cnf) (n : ℕ) (text : List ℕ) (steps : List Step) → B.vars ≤ 6 → IsHonest B n text → LineSpellsWithin (log_top B) text steps → AreFresh B (map_of B) steps → n ≤ 3 ^ B.vars
+few_lemmas B n text steps six h spells fresh =
+    let few : max 2000000 B.vars < 2 ^ 48 = omega arith in
+    few_lemmas_within (log_top B) few B n text steps six h spells fresh

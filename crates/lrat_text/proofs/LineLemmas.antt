@@ -15,11 +15,11 @@ use Rattle.lrat_text.specs.declared.step.Step.TheVariants.{Add, Delete}
 use Rattle.lrat_text.specs.Grammar.{tokens, IsTrimmed, IsClauseNumber, IsGroup, IsStep, IsStepWithin, literal_token, group_tokens, step_tokens, SpellsStep, SpellsStepWithin, LineSpells, LineSpellsWithin}
 use Rattle.lrat_text.specs.inner.Tokens.{is_space}
 use Rattle.lrat_text.specs.WrittenLine.{line_text}
-use Rattle.lrat_text.specs.Lines.{AllRead}
-use Rattle.lrat_text.specs.Parser.{step_in}
+use Rattle.lrat_text.specs.Lines.{AllRead, AllReadWithin}
+use Rattle.lrat_text.specs.Parser.{step_within}
 use Rattle.lrat_text.proofs.NumberLemmas.{IsDigitByte, decimal_digits, negative_token}
 use Rattle.lrat_text.proofs.TokenLemmas.{front_more}
-use Rattle.lrat_text.proofs.SpellingLemmas.{found_spells, spelled_found}
+use Rattle.lrat_text.proofs.SpellingLemmas.{found_spells_within, spelled_found_within}
 
 -- ---- words without spaces and LF
 
@@ -239,27 +239,35 @@ lines_pieces (b ∷ bs) = by_end (b == 10) refl (lines_pieces bs)
     by_end true e h = (tt, h)
     by_end false e h = onto_pieces b (lines bs) e h
 
-read_more : (line : List ℕ) (step : Step) (pieces : List (List ℕ)) (steps : List Step) → 0 < length pieces → step_in line ≡ Ok step → AllRead pieces steps → AllRead (line ∷ pieces) (step ∷ steps)
-read_more line step [] steps some e h = absurd (omega arith)
-read_more line step (piece ∷ pieces) steps some e h = (e, h)
+read_more : (most : ℕ) (line : List ℕ) (step : Step) (pieces : List (List ℕ)) (steps : List Step) → 0 < length pieces → step_within most line ≡ Ok step → AllReadWithin most pieces steps
+    → AllReadWithin most (line ∷ pieces) (step ∷ steps)
+read_more most line step [] steps some e h = absurd (omega arith)
+read_more most line step (piece ∷ pieces) steps some e h = (e, h)
 
 -- a text of lines is read piece by piece
-pub spelled_read : (text : List ℕ) (steps : List Step) → LineSpells text steps → AllRead (lines text) steps
-spelled_read text [] h = let P : List ℕ → Type 0 = λ t. AllRead (lines t) [] in subst P (sym h) (refl, refl)
-spelled_read text (step ∷ steps) h =
+pub spelled_read_within : (most : ℕ) → most < 2 ^ 48 → (text : List ℕ) (steps : List Step) → LineSpellsWithin most text steps → AllReadWithin most (lines text) steps
+spelled_read_within most few text [] h = let P : List ℕ → Type 0 = λ t. AllReadWithin most (lines t) [] in subst P (sym h) (refl, refl)
+spelled_read_within most few text (step ∷ steps) h =
     let e : lines text ≡ h.0 ∷ lines h.1 = ap lines h.2 ∙ lines_first h.0 h.1 h.3 in
-    let P : List (List ℕ) → Type 0 = λ pieces. AllRead pieces (step ∷ steps) in
-    subst P (sym e) (read_more h.0 step (lines h.1) steps (lines_some h.1) (spelled_found h.0 step h.4) (spelled_read h.1 steps h.5))
+    let P : List (List ℕ) → Type 0 = λ pieces. AllReadWithin most pieces (step ∷ steps) in
+    subst P (sym e) (read_more most h.0 step (lines h.1) steps (lines_some h.1) (spelled_found_within most h.0 step few h.4) (spelled_read_within most few h.1 steps h.5))
 
-pieces_spell : (pieces : List (List ℕ)) (steps : List Step) → AllByRecursion IsPiece pieces → AllRead pieces steps → LineSpells (join_with_byte 10 pieces) steps
-pieces_spell [] steps p h = absurd h
-pieces_spell (last ∷ []) [] p h = h.0
-pieces_spell (last ∷ []) (step ∷ steps) p h = absurd (cc (h.1))
-pieces_spell (piece ∷ next ∷ pieces) [] p h = absurd h
-pieces_spell (piece ∷ next ∷ pieces) (step ∷ steps) p h =
-    (piece, join_with_byte 10 (next ∷ pieces), refl, no_end piece p.0, found_spells piece step h.0, pieces_spell (next ∷ pieces) steps p.1 h.1)
+pieces_spell : (most : ℕ) (pieces : List (List ℕ)) (steps : List Step) → AllByRecursion IsPiece pieces → AllReadWithin most pieces steps → LineSpellsWithin most (join_with_byte 10 pieces) steps
+pieces_spell most [] steps p h = absurd h
+pieces_spell most (last ∷ []) [] p h = h.0
+pieces_spell most (last ∷ []) (step ∷ steps) p h = absurd (cc (h.1))
+pieces_spell most (piece ∷ next ∷ pieces) [] p h = absurd h
+pieces_spell most (piece ∷ next ∷ pieces) (step ∷ steps) p h =
+    (piece, join_with_byte 10 (next ∷ pieces), refl, no_end piece p.0, found_spells_within most piece step h.0, pieces_spell most (next ∷ pieces) steps p.1 h.1)
+
+pub read_spelled_within : (most : ℕ) (text : List ℕ) (steps : List Step) → AllReadWithin most (lines text) steps → LineSpellsWithin most text steps
+read_spelled_within most text steps h =
+    let P : List ℕ → Type 0 = λ t. LineSpellsWithin most t steps in
+    subst P (join_with_byte-slice_split 10 text) (pieces_spell most (lines text) steps (lines_pieces text) h)
+
+-- the same within the written limits
+pub spelled_read : (text : List ℕ) (steps : List Step) → LineSpells text steps → AllRead (lines text) steps
+spelled_read text steps h = spelled_read_within 2000000 (omega arith) text steps h
 
 pub read_spelled : (text : List ℕ) (steps : List Step) → AllRead (lines text) steps → LineSpells text steps
-read_spelled text steps h =
-    let P : List ℕ → Type 0 = λ t. LineSpells t steps in
-    subst P (join_with_byte-slice_split 10 text) (pieces_spell (lines text) steps (lines_pieces text) h)
+read_spelled text steps h = read_spelled_within 2000000 text steps h

@@ -1,13 +1,14 @@
 -- A log that closes the empty cube refutes the formula.
-use Rattle.std.proofs.Common.{◌≡◌, ℕ, ◌<◌, inl, inr, List, [], ◌∷◌, ◌++◌, length, refl, sym, subst, arith}
+use Rattle.std.proofs.Common.{◌≡◌, ℕ, ◌*◌, ◌<◌, ◌≤◌, max, inl, inr, List, [], ◌∷◌, ◌++◌, length, refl, sym, subst, arith}
 use Rattle.std.specs.Prelude.{Contains}
 use Rattle.dimacs.specs.logic.Literal.{Literal, Clause, negation}
 use Rattle.dimacs.specs.logic.Cnf.{Cnf}
 use Rattle.dimacs.specs.logic.ClauseMap.{ClauseMap, map_of}
-use Rattle.lrat_text.specs.Log.{after_step, top_after, IsLogStep, AreLogSteps, Negates, Closes}
-use Rattle.lrat_text.specs.Proof.{TakesStep, AddsEmpty, Refutation, Accepts}
+use Rattle.lrat_text.specs.Log.{after_step, top_after, IsLogStep, AreLogSteps, Negates, log_top, Closes}
+use Rattle.lrat_text.specs.Proof.{TakesStep, AddsEmpty, Refutation, proof_top, Accepts}
 use Rattle.lrat_text.specs.declared.step.Step.{Step}
 use Rattle.lrat_text.specs.declared.step.Step.TheVariants.{Add, Delete}
+use Rattle.lrat_text.proofs.LineLemmas.{spells_more}
 
 -- a step of a log is taken
 pub taken : (m : ℕ) (M : ClauseMap) (top : ℕ) (step : Step) → IsLogStep m M top step → TakesStep M top step (after_step M step) (top_after top step)
@@ -32,9 +33,10 @@ refuted m M top (step ∷ front) last h n = (after_step M step, top_after top st
 
 pub closed_accepts : (F : Cnf) (text : List ℕ) → Closes F [] text → Accepts F text
 closed_accepts F text c =
+    let le : max 2000000 F.vars ≤ max 2000000 (2 * F.vars) = omega arith in
     let e = c.3 in (
       c.0,
-      c.1,
+      spells_more (log_top F) (proof_top F) le text c.0 c.1,
       subst (Refutation (map_of F) (length F.clauses)) (sym e.2)
           (refuted (length F.clauses) (map_of F) (length F.clauses) e.0 e.1 (subst (AreLogSteps (length F.clauses) (map_of F) (length F.clauses)) e.2 c.2) e.3),
     )

@@ -27,11 +27,11 @@ pub record IsTrimmed (line : List ℕ) : Type 0 where
   pub first : slice_index line 0 ≡ space → ⊥
   pub last : slice_index line (length line - 1) ≡ space → ⊥
 
--- clause numbers are from 1 to 2^48 - 1
+-- n is a clause number: it is from 1 to 2^48 - 1
 abbrev pub IsClauseNumber : ℕ → Type 0
 IsClauseNumber n = (1 ≤ n) × (n < 2 ^ 48)
 
--- the candidate and the hints of a group are clause numbers
+-- the candidate and the hints of the group g are clause numbers
 abbrev pub IsGroup : Group → Type 0
 IsGroup g = IsClauseNumber g.0 × All IsClauseNumber g.1
 
@@ -40,26 +40,26 @@ abbrev pub IsStepWithin : ℕ → Step → Type 0
 IsStepWithin most (Add id lits hints groups) = IsClauseNumber id × All (IsWithin most) lits × All IsClauseNumber hints × All IsGroup groups
 IsStepWithin most (Delete ids) = All IsClauseNumber ids
 
--- the same with variables up to 2,000,000, the limit of every proof whose reader gives no other one
+-- the step's clause numbers are within their limits, and its variables are from 1 to 2,000,000, the limit if a reader is given no other one
 abbrev pub IsStep : Step → Type 0
 IsStep step = IsStepWithin 2000000 step
 
--- a literal is its variable's number, with a minus if it is negated
+-- the token of a literal: its variable's number, after a minus if it is negated
 abbrev pub literal_token : Literal → List ℕ
 literal_token l = signed_decimal (number_of l)
 
--- a group is its candidate's number after a minus, and its hints
+-- the tokens of a group: its candidate's number after a minus, and its hints
 abbrev pub group_tokens : Group → List (List ℕ)
 group_tokens g = (codes "-" ++ decimal g.0) ∷ map decimal g.1
 
--- an addition is its number, the literals, 0, the hints, the groups, 0;
--- a deletion is a number, which means nothing, the letter d, the numbers of the deleted clauses, 0
+-- The tokens of a step. An addition is its number, the literals, 0, the hints, the groups, 0. A deletion is the number top, which means
+-- nothing, the letter d, the numbers of the deleted clauses, 0.
 abbrev pub step_tokens : ℕ → Step → List (List ℕ)
 step_tokens top (Add id lits hints groups) =
     decimal id ∷ (map literal_token lits ++ codes "0" ∷ (map decimal hints ++ flat_map group_tokens groups ++ codes "0" ∷ []))
 step_tokens top (Delete ids) = decimal top ∷ codes "d" ∷ (map decimal ids ++ codes "0" ∷ [])
 
--- a line without its LF spells a step with variables up to most
+-- the line, which has no LF, spells the step with variables up to most; the number top at the beginning of a deletion is free
 pub record SpellsStepWithin (most : ℕ) (line : List ℕ) (step : Step) : Type 0 where
   pub top : ℕ
   pub trimmed : IsTrimmed line
@@ -67,16 +67,16 @@ pub record SpellsStepWithin (most : ℕ) (line : List ℕ) (step : Step) : Type 
   pub numbered : IsClauseNumber top
   pub spelled : tokens line ≡ step_tokens top step
 
--- the same with variables up to 2,000,000
+-- the line, which has no LF, spells the step with variables up to 2,000,000
 abbrev pub SpellsStep : List ℕ → Step → Type 0
 SpellsStep line step = SpellsStepWithin 2000000 line step
 
--- a text is the lines of the steps in their order, each ended by LF
+-- the text is the lines of the steps in their order, each ended by LF, with variables up to most
 abbrev pub LineSpellsWithin : ℕ → List ℕ → List Step → Type 0
 LineSpellsWithin most text [] = text ≡ []
 LineSpellsWithin most text (step ∷ steps) =
     (line : List ℕ) × (rest : List ℕ) × (text ≡ line ++ lf ∷ rest) × ¬ (Contains line lf) × SpellsStepWithin most line step × LineSpellsWithin most rest steps
 
--- the same with variables up to 2,000,000
+-- the text is the lines of the steps in their order, each ended by LF, with variables up to 2,000,000
 abbrev pub LineSpells : List ℕ → List Step → Type 0
 LineSpells text steps = LineSpellsWithin 2000000 text steps

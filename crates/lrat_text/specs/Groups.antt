@@ -1,4 +1,4 @@
--- Groups whose hints are in one list.
+-- Groups of RAT hints that are held as heads and one list of all hints.
 use Rattle.std.specs.Prelude.{ℕ, List, [], ◌∷◌, slice_range}
 use Rattle.lrat_text.specs.declared.groups.Head.{Head}
 use Rattle.dimacs.specs.logic.Rat.{Group}

@@ -6,24 +6,25 @@ use Rattle.lrat_text.specs.Grammar.{space, literal_token, step_tokens}
 use Rattle.lrat_text.specs.declared.step.Step.{Step}
 use Rattle.lrat_text.specs.declared.step.Step.TheVariants.{Add, Delete}
 
--- the tokens of a step with single spaces between them
+-- the line that is written for a step, without its LF: the step's tokens with single spaces between them
 abbrev pub line_text : ℕ → Step → List ℕ
 line_text top step = join_with_byte space (step_tokens top step)
 
--- the line, with its LF
+-- the line that is written for a step, with its LF
 abbrev pub line_of : ℕ → Step → List ℕ
 line_of top step = line_text top step ++ codes "\n"
 
--- the number of an addition, if this is the line that is written for it
+-- the step's number if it is an addition and the line is the one that is written for it; None otherwise
 abbrev pub canonical_id : List ℕ → Step → Option ℕ
 canonical_id line (Add id lits hints groups) = if bytes_eq line (line_text id (Add id lits hints groups)) then Some id else None
 canonical_id line (Delete ids) = None
 
--- the text of literals: each after a space, and the closing 0
+-- the text of literals: each one after a space, and the closing 0 after a space
 abbrev pub literals_text : List Literal → List ℕ
 literals_text lits = flat_map (λ l. codes " " ++ literal_token l) lits ++ codes " 0"
 
--- an addition without its literals, and their text, if this is the line that is written for it
+-- the step without its literals, and the text of its literals, if it is an addition and the line is the one that is written for it; None
+-- otherwise
 abbrev pub canonical_parts : List ℕ → Step → Option (Step × List ℕ)
 canonical_parts line (Add id lits hints groups) =
     if bytes_eq line (line_text id (Add id lits hints groups)) then Some (Add id [] hints groups, literals_text lits) else None

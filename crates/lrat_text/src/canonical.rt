@@ -1,4 +1,4 @@
-//! Canonical lines: exactly as the writer writes them, with single spaces.
+//! Canonical lines: those that are exactly what the writer writes for their step, with single spaces.
 
 ghost use Rattle.std.specs.Prelude.{◌≡◌, ℕ, ◌^◌, ◌<◌};
 ghost use Rattle.lrat_text.specs.Grammar.{SpellsStep, SpellsStepWithin, space};
@@ -9,7 +9,7 @@ ghost use Rattle.lrat_text.specs.inner.Tokens.{begins_deletion, is_single};
 
 use crate::token::{Token, next_token};
 
-/// Whether a line is not empty, and no space is at its beginning, at its end or after another space.
+/// Answers whether a line is not empty, and no space is at its beginning, at its end or after another space.
 #[tactic(auto, using(crate::proofs::CanonicalLemmas::single_steps))]
 fn is_single_spaced(line: &[u8]) -> bool
     ensures { result ≡ is_single space line.now }
@@ -25,7 +25,7 @@ fn is_single_spaced(line: &[u8]) -> bool
     single & (line[last] != b' ')
 }
 
-/// Whether the next token is the letter of a deletion.
+/// Answers whether the next token is the letter `d` of a deletion.
 #[inline(always)]
 fn begins_deletion(rest: &[u8]) -> bool
     ensures { result ≡ begins_deletion (line_tokens rest.now) }
@@ -36,11 +36,11 @@ fn begins_deletion(rest: &[u8]) -> bool
     }
 }
 
-/// The number of an addition, if its line (without LF) is exactly what [`put_ref`](crate::put_ref) writes. `None` for a deletion, and
-/// for a line with more spaces than it needs.
+/// Answers the number of an addition if its line (without LF) is exactly what [`put_ref`](crate::put_ref) writes; `None` for a deletion,
+/// and for a line with more spaces than it needs.
 ///
-/// The caller knows that the line spells a step with variables up to some limit below 2^48. Only the first number is read, so this
-/// takes a fraction of the time of [`read_line`](crate::read_line).
+/// The caller knows that the line spells a step with variables up to some limit below 2^48. Only the first number is read, so this takes a
+/// fraction of the time of [`read_line`](crate::read_line).
 pub fn canonical_id_within(line: &[u8]) -> Option<u64>
     requires spelled { (most : ℕ) × (most < 2 ^ 48) × (step : Step) × SpellsStepWithin most line.now step }
     ensures { (most : ℕ) (step : Step) → most < 2 ^ 48 → SpellsStepWithin most line.now step → result ≡ canonical_id line.now step }
@@ -57,7 +57,9 @@ pub fn canonical_id_within(line: &[u8]) -> Option<u64>
     }
 }
 
-/// As [`canonical_id_within`], for variables up to 2,000,000.
+/// Answers the number of an addition if its line (without LF) is exactly what
+/// [`put_ref`](crate::put_ref) writes; `None` for a deletion, and for a line with more spaces than
+/// it needs. The caller knows that the line spells a step with variables up to 2,000,000.
 pub fn canonical_id(line: &[u8]) -> Option<u64>
     requires spelled { (step : Step) × SpellsStep line.now step }
     ensures { (step : Step) → SpellsStep line.now step → result ≡ canonical_id line.now step }

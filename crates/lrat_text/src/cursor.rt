@@ -1,4 +1,4 @@
-//! Reading a text line by line, by the place of the next line.
+//! A cursor over a text: reads one line by its offset, and answers the offset of the next line.
 
 ghost use Rattle.std.specs.Prelude.{◌≡◌, ℕ, IfSome, IfOk, MatchOption, Ok, Some};
 ghost use Rattle.lrat_text.specs.Lines.{IsCut, IsLineBetween, IsOpen};
@@ -11,7 +11,7 @@ use crate::step::Step;
 use memchr::memchr;
 use std::alloc::Global;
 
-/// The line before the first LF, and what follows that LF; `None` if the text has no LF.
+/// Splits a text at its first LF: answers the line before the LF and the text after it; `None` if the text has no LF.
 pub fn cut_line(text: &[u8]) -> Option<(&[u8], &[u8])>
     ensures { MatchOption result (IsOpen text.now) (λ p. IsCut text.now p.0.now p.1.now) }
 {
@@ -21,7 +21,7 @@ pub fn cut_line(text: &[u8]) -> Option<(&[u8], &[u8])>
     }
 }
 
-/// Reads the line at a place.
+/// Reads the line that begins at offset `at`: answers its step and the offset after its LF. `None` from the end of the text on.
 fn line_step(alloc: Global, bytes: &[u8], at: usize) -> Result<Option<(Step, usize)>, TextFault>
     ensures { Gives result (next_of bytes.now at) }
 {
@@ -35,9 +35,10 @@ fn line_step(alloc: Global, bytes: &[u8], at: usize) -> Result<Option<(Step, usi
     Ok(Some((step, at + line.len() + 1)))
 }
 
-/// Reads the line at a place, and gives its step and the place after its LF; `None` at the end of the text and beyond.
+/// Reads the line that begins at offset `at` (from 0): answers its step and the offset after its LF; `None` if `at` is the text's length or
+/// more.
 ///
-/// The first fault is `LineNotEnded` if no LF follows, then those of [`read_line`](crate::read_line).
+/// `LineNotEnded` if no LF follows; otherwise the first fault of the line, as of [`read_line`](crate::read_line).
 pub fn next(alloc: Global, bytes: &[u8], at: usize) -> Result<Option<(Step, usize)>, TextFault>
     // At `Ok` the line spells the step that was read.
     ensures found { IfOk result (λ o. IfSome o (λ p. IsLineBetween bytes.now at p.1 p.0)) }

@@ -1,4 +1,4 @@
-//! Why a line spells no step.
+//! The faults of a line, and their numbers.
 
 ghost use Rattle.std.specs.Prelude.{◌≡◌};
 ghost use Rattle.lrat_text.specs.Faults.{fault_number};
@@ -10,7 +10,7 @@ use thiserror::Error;
 /// The first fault of a line.
 #[derive(Clone, Copy, Debug, PartialEq, Eq, Error)]
 pub enum TextFault {
-    /// The line is empty, has a space at its beginning or end, or has a token that cannot stand at its place.
+    /// The line is empty, has a space at its beginning or end, or has a token that cannot stand where it does.
     #[error("a token cannot stand where it does")]
     BadToken,
     /// No LF follows the line.
@@ -19,7 +19,7 @@ pub enum TextFault {
     /// The line ends before its last `0`.
     #[error("the line ends before its last `0`")]
     MissingZero,
-    /// A clause number above 2^48 - 1, or a variable above the limit, which is 2,000,000 unless the caller gives another one.
+    /// A clause number is above 2^48 - 1, or a variable above the limit, which is 2,000,000 unless the caller gives another one.
     #[error("a number is above its limit")]
     NumberTooLarge,
     /// Memory was refused.
@@ -28,7 +28,7 @@ pub enum TextFault {
 }
 
 impl TextFault {
-    /// The fault's number, 1 to 5.
+    /// Answers the fault's number, 1 to 5.
     pub fn number(self) -> u8
         ensures { result ≡ fault_number self }
     {

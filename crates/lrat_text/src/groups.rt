@@ -1,4 +1,5 @@
-//! Groups of RAT hints: each has a candidate (a clause with the pivot's negation) and the hints that refute the resolvent with it.
+//! Groups of RAT hints: each has a candidate (the number of a clause that has the pivot's negation) and the hints that refute the resolvent
+//! with that clause.
 
 ghost use Rattle.std.specs.Prelude.{◌≡◌, ◌^◌, ◌<◌, [], ◌∷◌, ◌++◌, length, ◌==◌, slice_get, Some, OnOk, OnErr};
 ghost use Rattle.lrat_text.specs.inner.Groups.{start_at};
@@ -7,21 +8,25 @@ ghost use Rattle.lrat_text.specs.GroupLists.{with_hint};
 use std::alloc::{AllocError, Global};
 use std::marker::Model;
 
-/// A group's candidate, and where its hints end among those of all groups.
+/// A group's candidate, and the end of its hints in the list of all groups' hints.
 #[derive(Clone, Copy)]
 struct Head {
+    /// The candidate's clause number.
     candidate: u64,
+    /// The index after the group's last hint in the list of all hints.
     end: usize,
 }
 
 /// Groups in their written order. The hints of all groups are in one vector.
 #[derive(Drop)]
 pub struct Groups {
+    /// One head for each group, in their written order.
     heads: Vec<Head>,
+    /// The hints of all groups, one group after the other.
     hints: Vec<u64>,
 }
 
-/// Where the hints of the group at `i` begin.
+/// Answers the index of the first hint of group `i` (from 0) in the list of all hints.
 fn start_of(heads: &[Head], i: usize) -> usize
     requires { i < length heads.now }
     ensures { result ≡ start_at 0 heads.now i }
@@ -44,7 +49,7 @@ impl Model for Groups {
 }
 
 impl Groups {
-    /// No group.
+    /// An empty list of groups.
     pub fn new(alloc: Global) -> Groups
         ensures { result ≡ [] }
     {
@@ -55,7 +60,7 @@ impl Groups {
     }
 
     #[tactic(auto, using(crate::proofs::GroupLemmas::length_groups))]
-    /// How many groups there are.
+    /// Answers the number of groups.
     pub fn len(&self) -> usize
         ensures value { result ≡ length self.now }
         ensures below { result < 2 ^ 63 }
@@ -64,14 +69,14 @@ impl Groups {
     }
 
     #[tactic(auto, using(crate::proofs::GroupLemmas::length_groups))]
-    /// Whether there is no group.
+    /// Answers whether there is no group.
     pub fn is_empty(&self) -> bool
         ensures { result ≡ (length self.now == 0) }
     {
         self.heads.is_empty()
     }
 
-    /// The candidate of the group at `i`, from 0, and its hints.
+    /// Answers the candidate of group `i` (from 0), and lends its hints.
     pub fn get(&self, i: usize) -> (u64, &[u64])
         requires { i < length self.now }
         ensures { slice_get self.now i ≡ Some (result.0, result.1.now) }
@@ -81,7 +86,7 @@ impl Groups {
         (head.candidate, &self.hints[start..head.end])
     }
 
-    /// Takes all groups out, and keeps the room.
+    /// Removes all groups, and keeps the memory.
     pub fn clear(&mut self)
         ensures { self.new ≡ [] }
     {
@@ -89,7 +94,7 @@ impl Groups {
         self.hints.clear();
     }
 
-    /// One group more, with these hints.
+    /// Appends a group with this candidate and these hints. If memory is refused, the groups are as before.
     pub fn push(&mut self, candidate: u64, hints: &[u64]) -> Result<(), AllocError>
         ensures ok { OnOk result (self.new ≡ self.old ++ (candidate, hints.now) ∷ []) }
         ensures err { OnErr result (self.new ≡ self.old) }
@@ -101,7 +106,7 @@ impl Groups {
         Ok(())
     }
 
-    /// One hint more in the last group.
+    /// Appends a hint to the last group. If memory is refused, the groups are as before.
     pub fn push_hint(&mut self, hint: u64) -> Result<(), AllocError>
         requires { 0 < length self.old }
         ensures ok { OnOk result (self.new ≡ with_hint hint self.old) }

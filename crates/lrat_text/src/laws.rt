@@ -18,7 +18,7 @@ pub fn reading_is_spelling()
     ensures only { (line : List ℕ) (step : Step) → SpellsStep line step → step_in line ≡ Ok step }
 {}
 
-/// The same for each limit of the variables below 2^48.
+/// For each limit of the variables below 2^48: a line is read as a step if and only if it spells that step.
 pub fn reading_within_is_spelling()
     ensures found { (most : ℕ) (line : List ℕ) (step : Step) → step_within most line ≡ Ok step → SpellsStepWithin most line step }
     ensures only { (most : ℕ) (line : List ℕ) (step : Step) → most < 2 ^ 48 → SpellsStepWithin most line step → step_within most line ≡ Ok step }
@@ -29,14 +29,14 @@ pub fn a_greater_limit_spells_the_same()
     ensures { (few most : ℕ) (text : List ℕ) (steps : List Step) → few ≤ most → LineSpellsWithin few text steps → LineSpellsWithin most text steps }
 {}
 
-/// The text written for a step is one line, spells the step, and is read back as it.
+/// The text that is written for a step is one line, spells the step, and is read back as that step.
 pub fn putting_is_spelling()
     ensures spells { (top : ℕ) (step : Step) → IsClauseNumber top → IsStep step → SpellsStep (line_text top step) step }
     ensures one_line { (top : ℕ) (step : Step) → IsClauseNumber top → IsStep step → ¬ (Contains (line_text top step) 10) }
     ensures read_back { (top : ℕ) (step : Step) → IsClauseNumber top → IsStep step → step_in (line_text top step) ≡ Ok step }
 {}
 
-/// A text spells steps if and only if each of its lines is read as its step.
+/// A text spells steps if and only if each of its lines is read as the step of the same index.
 pub fn text_is_lines()
     ensures read { (text : List ℕ) (steps : List Step) → LineSpells text steps → AllRead (lines text) steps }
     ensures spelled { (text : List ℕ) (steps : List Step) → AllRead (lines text) steps → LineSpells text steps }
@@ -49,7 +49,9 @@ pub fn closing_the_empty_cube_is_accepted()
 
 /// A text spells at most one list of steps.
 pub fn a_text_spells_one_list()
-    ensures { (text : List ℕ) (steps others : List Step) → LineSpells text steps → LineSpells text others → steps ≡ others }
+    ensures written { (text : List ℕ) (steps others : List Step) → LineSpells text steps → LineSpells text others → steps ≡ others }
+    // whatever the limits of the variables are
+    ensures within { (a b : ℕ) (text : List ℕ) (steps others : List Step) → a < 2 ^ 48 → b < 2 ^ 48 → LineSpellsWithin a text steps → LineSpellsWithin b text others → steps ≡ others }
 {}
 
 /// A fresh log over n <= 6 variables deletes nothing, so it has at most 3^n lemmas: as many as there are clauses over n variables without a

@@ -1,6 +1,6 @@
 //! LRAT proofs as text: steps, and the lines that spell them.
 //!
-//! [`read_line`] and [`next`] read lines, [`put_ref`] writes them, [`LineBuffer`] cuts a text that comes in pieces into lines.
+//! [`read_line`] and [`next`] read lines, [`put_ref`] writes them, and [`LineBuffer`] splits a text that comes in pieces into lines.
 #![tactic(auto)]
 
 mod canonical;
@@ -8,6 +8,7 @@ mod cursor;
 mod fault;
 mod groups;
 mod laws;
+mod limit;
 mod line_splitter;
 mod parser;
 mod short_number;
@@ -28,6 +29,7 @@ pub use laws::{
     fresh_logs_are_short, putting_is_spelling, reading_is_spelling, reading_within_is_spelling,
     text_is_lines,
 };
+pub use limit::{log_top, proof_top};
 pub use line_splitter::{LineBuffer, PieceFault, TakesLines, take_lines};
 pub use parser::{read_line, read_line_within};
 pub use step::{ClauseNumbers, Literals, Step, StepRef};

@@ -1,4 +1,4 @@
-//! Cutting a text that comes in pieces into lines, which are delivered to a consumer.
+//! Splitting a text that comes in pieces into lines, and delivering each line to a consumer.
 
 ghost use Rattle.std.specs.Prelude.{◌≡◌, ◌++◌, ℕ, List, [], length, take, MatchOption, MatchResult, OnOk, OnErr};
 ghost use Rattle.lrat_text.specs.Lines.{IsCut, IsOpen};
@@ -8,7 +8,7 @@ use crate::cursor::cut_line;
 use std::alloc::{AllocError, Global};
 use std::marker::Model;
 
-/// A consumer of lines, which takes them one by one.
+/// A consumer of lines: it is given one line after the other.
 pub trait TakesLines {
     /// Why a line is refused.
     type Fault;
@@ -16,13 +16,13 @@ pub trait TakesLines {
     /// What must hold before each call of `take_line`, and holds after each `Ok`.
     ghost may_take: { Self → Type 0 };
 
-    /// The consumer before and after a line that it took.
+    /// The relation between the consumer before a line, that line, and the consumer after it, if the line was taken.
     ghost takes: { Self → List ℕ → Self → Type 0 };
 
-    /// The consumer before and after a line that it refused with this fault.
+    /// The relation between the consumer before a line, that line, the consumer after it, and the fault, if the line was refused.
     ghost refuses: { Self → List ℕ → Self → Self.Fault → Type 0 };
 
-    /// Takes a line without its LF.
+    /// Takes a line without its LF, or refuses it with a fault.
     fn take_line(&mut self, line: &[u8]) -> Result<(), Self::Fault>
         requires { may_take self.old }
         ensures { MatchResult result (λ _. may_take self.new × takes self.old line.now self.new) (λ fault. refuses self.old line.now self.new fault) };
@@ -37,7 +37,7 @@ pub enum PieceFault<F> {
     Line(F),
 }
 
-/// Delivers the lines of a text that an LF ends, and answers what follows the last LF.
+/// Delivers the lines of a text that an LF ends, and answers the text after the last LF. It ends at the first line that is refused.
 pub fn take_lines<'a, T: TakesLines>(taker: &mut T, text: &'a [u8]) -> Result<&'a [u8], T::Fault>
     requires { T.may_take taker.old }
     ensures { MatchResult result
@@ -52,8 +52,8 @@ pub fn take_lines<'a, T: TakesLines>(taker: &mut T, text: &'a [u8]) -> Result<&'
     Ok(rest)
 }
 
-/// Appends the piece up to its first LF to the incomplete line, and answers what follows that LF. If the piece has no LF, it appends all of
-/// it and answers `None`.
+/// Appends the piece up to its first LF to the incomplete line `begun`, and answers the text after that LF. If the piece has no LF, it
+/// appends the whole piece and answers `None`.
 fn end_line<'a>(begun: &mut Vec<u8>, piece: &'a [u8]) -> Result<Option<&'a [u8]>, AllocError>
     requires { IsOpen begun.old.items }
     ensures ended { MatchResult result
@@ -75,7 +75,7 @@ fn end_line<'a>(begun: &mut Vec<u8>, piece: &'a [u8]) -> Result<Option<&'a [u8]>
     }
 }
 
-/// Replaces the buffer's bytes by these.
+/// Replaces the content of a buffer by these bytes. If memory is refused, the buffer is as before.
 fn replace(buffer: &mut Vec<u8>, bytes: &[u8]) -> Result<(), AllocError>
     ensures { MatchResult result (λ _. buffer.new.items ≡ bytes.now) (λ _. buffer.new.items ≡ buffer.old.items) }
 {
@@ -85,7 +85,8 @@ fn replace(buffer: &mut Vec<u8>, bytes: &[u8]) -> Result<(), AllocError>
     Ok(())
 }
 
-/// Takes a piece that begins a new line, and stores what follows its last LF.
+/// Delivers the lines of a piece that begins a new line, and replaces `begun` by the incomplete line at its end. After an `Err`, `begun` is
+/// as before.
 fn take_apart<T: TakesLines>(
     begun: &mut Vec<u8>,
     piece: &[u8],
@@ -106,7 +107,8 @@ fn take_apart<T: TakesLines>(
     }
 }
 
-/// Takes the next piece, which continues the incomplete line. After an `Err` the buffer begins with what it had.
+/// Delivers the lines that are complete with the next piece, which continues the incomplete line `begun`, and replaces `begun` by the new
+/// incomplete line. After an `Err`, the bytes of `begun` are kept, but others may follow them.
 fn take_piece<T: TakesLines>(
     begun: &mut Vec<u8>,
     piece: &[u8],
@@ -133,9 +135,10 @@ fn take_piece<T: TakesLines>(
     }
 }
 
-/// The bytes of the incomplete line, which have no LF. A line that is complete within a piece is not copied.
+/// Holds the incomplete line at the end of the last piece. A line that lies within one piece is not copied.
 #[derive(Drop)]
 pub struct LineBuffer {
+    /// The bytes of the incomplete line, which have no LF.
     bytes: Vec<u8>,
 }
 
@@ -151,7 +154,7 @@ impl Model for LineBuffer {
 }
 
 impl LineBuffer {
-    /// A buffer before the first byte.
+    /// A buffer for a text of which no byte has come.
     pub fn new(alloc: Global) -> LineBuffer
         ensures { result ≡ [] }
     {
@@ -160,7 +163,7 @@ impl LineBuffer {
         }
     }
 
-    /// The bytes of the incomplete line.
+    /// Lends the bytes of the incomplete line.
     pub fn as_slice(&self) -> &[u8]
         ensures value { result.now ≡ self.now }
         ensures open { IsOpen self.now }
@@ -168,8 +171,8 @@ impl LineBuffer {
         &self.bytes
     }
 
-    /// Takes the next piece of a text: delivers each line that is complete now, and stores the incomplete one. After an `Err` the
-    /// buffer is as before.
+    /// Takes the next piece of a text: delivers each line that is complete now, and stores the incomplete one. After an `Err` the buffer is
+    /// as before, but the lines before the refused one have been delivered.
     pub fn feed<T: TakesLines>(
         &mut self,
         piece: &[u8],

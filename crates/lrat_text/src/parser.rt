@@ -1,10 +1,10 @@
-//! The parser of a line, which reads it into a buffer.
+//! The parser of a line: reads its tokens from left to right into a [`StepBuffer`].
 
 ghost use Rattle.std.specs.Prelude.{◌≡◌, if◌then◌else◌, ℕ, ◌<◌, ◌≤◌, List, [], length, IfSome, Ok, OnOk, IfOk};
 ghost use Rattle.dimacs.specs.logic.Literal.{Literal, Neg, Pos};
 ghost use Rattle.lrat_text.specs.Grammar.{SpellsStep, SpellsStepWithin};
 ghost use Rattle.lrat_text.specs.Parser.{ended, ids_in, groups_in, hints_in, literals_in, body_in, first_within, step_in, step_within, line_tokens, is_trimmed, GivesStep, Gives};
-ghost use Rattle.lrat_text.specs.inner.Tokens.{IsCounted, tokens_from};
+ghost use Rattle.lrat_text.specs.inner.Tokens.{HasNumberInRange, tokens_from};
 ghost use Rattle.lrat_text.specs.declared.step.Step.{Step};
 ghost use Rattle.lrat_text.specs.declared.step.Step.TheVariants as owned;
 
@@ -17,10 +17,10 @@ use crate::token::{Token, next_token};
 use dimacs::{Lit, Var};
 use std::alloc::{AllocError, Global};
 
-/// The greatest variable of a proof, unless the caller gives a limit.
+/// The greatest variable of a step, unless the caller gives a limit.
 const WRITTEN: u32 = 2_000_000;
 
-/// Tests that nothing follows the last `0`.
+/// Tests that only spaces follow the last `0`; `BadToken` otherwise.
 fn read_end(text: &[u8]) -> Result<(), TextFault>
     ensures { (step : Step) → GivesStep step result (ended step (line_tokens text.now)) }
 {
@@ -30,7 +30,7 @@ fn read_end(text: &[u8]) -> Result<(), TextFault>
     }
 }
 
-/// Takes hints up to the first token that is no short number, and answers what follows them.
+/// Appends hints up to the first token that [`next_plus`] does not read, and answers the text from that token on.
 #[tactic(auto, unfolding(crate::specs::Parser::hints_in))]
 #[inline(always)]
 fn take_hints<'a>(hints: &mut Vec<u64>, text: &'a [u8]) -> Result<&'a [u8], AllocError>
@@ -44,7 +44,7 @@ fn take_hints<'a>(hints: &mut Vec<u64>, text: &'a [u8]) -> Result<&'a [u8], Allo
     Ok(rest)
 }
 
-/// The literal of a variable's number.
+/// Makes the literal of a variable's number (1 to 199,999,999) and its sign.
 #[inline(always)]
 fn literal_of(number: u64, is_negative: bool) -> Lit
     requires { (1 ≤ number) × (number ≤ 199999999) }
@@ -58,7 +58,7 @@ fn literal_of(number: u64, is_negative: bool) -> Lit
     }
 }
 
-/// Takes literals up to the first token that is no short number within the limit, and answers what follows them.
+/// Appends literals up to the first token that is no short number or has a variable above `most`, and answers the text from that token on.
 #[tactic(auto, unfolding(crate::specs::Parser::literals_in))]
 #[inline(always)]
 fn take_literals<'a>(
@@ -81,7 +81,7 @@ fn take_literals<'a>(
     Ok(rest)
 }
 
-/// Reads the clause numbers of a deletion, up to `0`.
+/// Appends the clause numbers of a deletion up to `0`, after which only spaces may follow.
 #[tactic(auto, unfolding(crate::specs::Parser::ids_in))]
 fn read_ids(numbers: &mut Vec<u64>, text: &[u8]) -> Result<(), TextFault>
     ensures { GivesStep (owned.Delete numbers.new.items) result (ids_in numbers.old.items (line_tokens text.now)) }
@@ -99,7 +99,7 @@ fn read_ids(numbers: &mut Vec<u64>, text: &[u8]) -> Result<(), TextFault>
     Err(TextFault::MissingZero)
 }
 
-/// Reads the hints of the last group, and further groups, up to `0`.
+/// Appends hints to the last group, and further groups, up to `0`, after which only spaces may follow.
 #[tactic(auto, using(crate::proofs::GroupLemmas::length_with_hint), unfolding(crate::specs::Parser::groups_in))]
 fn read_groups(groups: &mut Groups, text: &[u8]) -> Result<(), TextFault>
     requires open { 0 < length groups.old }
@@ -119,7 +119,7 @@ fn read_groups(groups: &mut Groups, text: &[u8]) -> Result<(), TextFault>
     Err(TextFault::MissingZero)
 }
 
-/// Reads the hints and the groups of an addition, up to `0`.
+/// Appends the hints and the groups of an addition up to `0`, after which only spaces may follow.
 #[tactic(auto, unfolding(crate::specs::Parser::hints_in))]
 pub(crate) fn read_hints(
     numbers: &mut Vec<u64>,
@@ -146,7 +146,8 @@ pub(crate) fn read_hints(
     Err(TextFault::MissingZero)
 }
 
-/// Reads the literals of an addition from this token on, up to `0`, then its hints and groups.
+/// Appends the literals of an addition from the token `first` on, up to `0`; then reads its hints and groups. `first` is the token and the
+/// text after it, or `None` at the line's end.
 #[tactic(auto, unfolding(crate::specs::Parser::literals_in))]
 fn read_literals(
     most: u32,
@@ -157,7 +158,7 @@ fn read_literals(
 ) -> Result<(), TextFault>
     requires no_hint { numbers.old.items ≡ [] }
     requires no_group { groups.old ≡ [] }
-    requires counted { IfSome first (λ p. IsCounted p.0) }
+    requires counted { IfSome first (λ p. HasNumberInRange p.0) }
     requires most { most ≤ 199999999 }
     ensures { (id : ℕ) → GivesStep (owned.Add id literals.new.items numbers.new.items groups.new) result (literals_in most id literals.old.items (tokens_from first.entry)) }
 {
@@ -185,7 +186,7 @@ fn read_literals(
     Err(TextFault::MissingZero)
 }
 
-/// Whether a line has a byte, and no space at its beginning or end.
+/// Answers whether a line is not empty, and has no space at its beginning or end.
 fn is_trimmed(line: &[u8]) -> bool
     ensures { result ≡ is_trimmed line.now }
 {
@@ -196,7 +197,7 @@ fn is_trimmed(line: &[u8]) -> bool
 }
 
 impl StepBuffer {
-    /// Reads what follows a line's number.
+    /// Reads the text after a line's number: `d` begins a deletion, everything else an addition with the number `id`.
     #[tactic(auto, unfolding(crate::specs::Parser::body_in))]
     fn read_body(&mut self, most: u32, id: u64, text: &[u8]) -> Result<(), TextFault>
         requires { most ≤ 199999999 }
@@ -221,7 +222,7 @@ impl StepBuffer {
         )
     }
 
-    /// Reads a line without a space at its beginning or end.
+    /// Reads a line that has no space at its beginning or end.
     #[tactic(auto, unfolding(crate::specs::Parser::first_within))]
     fn read_trimmed(&mut self, most: u32, line: &[u8]) -> Result<(), TextFault>
         requires { most ≤ 199999999 }
@@ -234,6 +235,7 @@ impl StepBuffer {
         }
     }
 
+    /// Reads a line without its LF; `BadToken` if it is empty or has a space at its beginning or end.
     #[tactic(auto, unfolding(crate::specs::Parser::step_within))]
     fn read(&mut self, most: u32, line: &[u8]) -> Result<(), TextFault>
         requires { most ≤ 199999999 }
@@ -247,11 +249,11 @@ impl StepBuffer {
     }
 }
 
-/// Reads a line without its LF, with variables up to `most`. After a fault the buffer holds some step.
+/// Reads a line without its LF into the buffer, with variables up to `most`. After a fault the buffer holds some step, which means nothing.
 ///
-/// The first fault is `BadToken` if the line is empty or has a space at its beginning or end. Then, from left to right, it is
-/// `BadToken` at a token that cannot stand at its place, and `NumberTooLarge` at a number that can but is above its limit. Then
-/// it is `MissingZero` if a list is not ended by `0`. `NoMemory` comes only if a vector cannot grow.
+/// `BadToken` comes first if the line is empty or has a space at its beginning or end. Then, from left to right, `BadToken` comes at a
+/// token that cannot stand where it does, and `NumberTooLarge` at a number that can but is above its limit. Then `MissingZero` comes if a
+/// list is not ended by `0`. `NoMemory` comes only if a vector cannot grow.
 pub fn read_line_within(buffer: &mut StepBuffer, most: u32, line: &[u8]) -> Result<(), TextFault>
     requires { most ≤ 199999999 }
     // At `Ok` the line spells the step that was read.
@@ -264,7 +266,7 @@ pub fn read_line_within(buffer: &mut StepBuffer, most: u32, line: &[u8]) -> Resu
     buffer.read(most, line)
 }
 
-/// As [`read_line_within`], with variables up to 2,000,000.
+/// Reads a line without its LF into the buffer, with variables up to 2,000,000. The faults are those of [`read_line_within`].
 pub fn read_line(buffer: &mut StepBuffer, line: &[u8]) -> Result<(), TextFault>
     // At `Ok` the line spells the step that was read.
     ensures found { OnOk result (SpellsStep line.now buffer.new) }
@@ -276,7 +278,7 @@ pub fn read_line(buffer: &mut StepBuffer, line: &[u8]) -> Result<(), TextFault>
     read_line_within(buffer, WRITTEN, line)
 }
 
-/// Reads a line without its LF into a new step.
+/// Reads a line without its LF into a new step, with variables up to 2,000,000. The faults are those of [`read_line_within`].
 pub(crate) fn read_step(alloc: Global, line: &[u8]) -> Result<Step, TextFault>
     ensures found { IfOk result (λ step. SpellsStep line.now step) }
     ensures exact { Gives result (step_in line.now) }

@@ -1,4 +1,4 @@
-//! Short numbers at the beginning of a text. Nearly all tokens of a line are short numbers, so they have a path of their own.
+//! The fast path for short numbers at the beginning of a text. Nearly all tokens of a line are short numbers.
 
 ghost use Rattle.std.specs.Prelude.{◌≡◌, if◌then◌else◌, ◌<◌, ◌≤◌, ◌^◌, ◌∷◌, length, take, Some, IfSome};
 ghost use Rattle.std.specs.List.{position_or_len};
@@ -10,11 +10,11 @@ ghost use Rattle.lrat_text.specs.inner.Tokens.{is_space, signed_token};
 use crate::token::{after_token, is_space, short_number};
 use core::dec2flt::{read_digits, ten_to};
 
-/// How many bytes are read at once.
+/// The number of bytes that are read at once.
 const WORD: usize = 8;
 
-/// The number before the first space, if its first digit is 1 to 9 and it has at most 7 digits, and how many digits it has. `None` for
-/// everything else, and if fewer than eight bytes are left.
+/// Reads the number before the first space: answers its value and its number of digits. `None` unless it has 1 to 7 digits, the first one
+/// is 1 to 9, and at least eight bytes are left.
 ///
 /// It reads eight bytes at once without a branch on the number of digits, since that is hard to predict.
 #[inline(always)]
@@ -38,8 +38,8 @@ fn word_number(text: &[u8]) -> Option<(u64, usize)>
     Some((value, len))
 }
 
-/// The number without a sign at the beginning of a line, and what follows it, as [`next_token`](crate::token::next_token) gives them.
-/// `None` also if [`word_number`] does not read it.
+/// Reads the short number without a sign at the beginning of a line: answers its value, and the text after it and after one space, as
+/// [`next_token`](crate::token::next_token) does. `None` if [`word_number`] does not read it.
 #[inline(always)]
 pub(crate) fn next_plus(line: &[u8]) -> Option<(u64, &[u8])>
     ensures token { IfSome result (λ p. line_tokens line.now ≡ Plus p.0 ∷ line_tokens p.1.now) }
@@ -52,7 +52,7 @@ pub(crate) fn next_plus(line: &[u8]) -> Option<(u64, &[u8])>
     Some((n, after_token(line, len)))
 }
 
-/// The length of a sign: 1 for a minus, else 0.
+/// Answers the length of a sign in bytes: 1 for a minus, otherwise 0.
 #[inline(always)]
 fn sign_len(is_negative: bool) -> usize
     ensures { result ≡ if is_negative then 1 else 0 }
@@ -60,8 +60,8 @@ fn sign_len(is_negative: bool) -> usize
     if is_negative { 1 } else { 0 }
 }
 
-/// The short number with or without a minus at the beginning of a line, and what follows it, as [`next_token`](crate::token::next_token)
-/// gives them.
+/// Reads the short number at the beginning of a line, with or without a minus: answers its value, whether it has a minus, and the text
+/// after it and after one space, as [`next_token`](crate::token::next_token) does. `None` if [`short_number`] does not read the number.
 ///
 /// There is no branch on the minus, since a literal's sign is hard to predict.
 #[inline(always)]

@@ -1,4 +1,4 @@
-//! Steps of a proof.
+//! Steps of a proof: additions and deletions, owned ([`Step`]) and borrowed ([`StepRef`]).
 
 ghost use Rattle.std.specs.Prelude.{◌≡◌};
 ghost use Rattle.lrat_text.specs.Steps.{step_of};
@@ -10,6 +10,7 @@ use std::marker::Model;
 /// The literals of a lemma, in their written order.
 #[derive(Drop)]
 pub struct Literals {
+    /// The literals, in their written order.
     literals: Vec<Lit>,
 }
 
@@ -27,21 +28,21 @@ impl Model for Literals {
 }
 
 impl Literals {
-    /// These literals.
+    /// Wraps a vector of literals.
     pub fn from_vec(literals: Vec<Lit>) -> Literals
         ensures { result ≡ literals.items }
     {
         Literals { literals }
     }
 
-    /// The literals.
+    /// Lends the literals.
     pub fn as_slice(&self) -> &[Lit]
         ensures { result.now ≡ self.now }
     {
         &self.literals
     }
 
-    /// The vector that holds them.
+    /// Hands over the vector of literals.
     pub fn into_vec(self) -> Vec<Lit>
         ensures { result.items ≡ self }
     {
@@ -53,6 +54,7 @@ impl Literals {
 /// Clause numbers, in their written order.
 #[derive(Drop)]
 pub struct ClauseNumbers {
+    /// The clause numbers, in their written order.
     numbers: Vec<u64>,
 }
 
@@ -65,21 +67,21 @@ impl Model for ClauseNumbers {
 }
 
 impl ClauseNumbers {
-    /// These numbers.
+    /// Wraps a vector of clause numbers.
     pub fn from_vec(numbers: Vec<u64>) -> ClauseNumbers
         ensures { result ≡ numbers.items }
     {
         ClauseNumbers { numbers }
     }
 
-    /// The numbers.
+    /// Lends the clause numbers.
     pub fn as_slice(&self) -> &[u64]
         ensures { result.now ≡ self.now }
     {
         &self.numbers
     }
 
-    /// The vector that holds them.
+    /// Hands over the vector of clause numbers.
     pub fn into_vec(self) -> Vec<u64>
         ensures { result.items ≡ self }
     {
@@ -99,30 +101,30 @@ pub enum Step {
         hints: ClauseNumbers,
         groups: Groups,
     },
-    /// Live clauses are deleted.
+    /// The live clauses of these numbers are deleted.
     Delete {
         ids: ClauseNumbers,
     },
 }
 
-/// One step of a proof, in borrowed parts.
+/// One step of a proof, whose lists are borrowed.
 #[derive(Clone, Copy)]
 pub enum StepRef<'a> {
-    /// A lemma, its hints and its groups.
+    /// A lemma is added: its number, its literals, its hints and its groups.
     Add {
         id: u64,
         lits: &'a [Lit],
         hints: &'a [u64],
         groups: &'a Groups,
     },
-    /// The numbers of the deleted clauses.
+    /// The clauses of these numbers are deleted.
     Delete {
         ids: &'a [u64],
     },
 }
 
 impl Step {
-    /// The step, lent part by part.
+    /// Lends the step.
     pub fn as_ref(&self) -> StepRef<'_>
         ensures { step_of result ≡ self.now }
     {

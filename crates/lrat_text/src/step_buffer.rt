@@ -1,4 +1,4 @@
-//! The buffer for the step of a line, whose vectors are used again from line to line.
+//! The buffer for the step of one line, whose vectors are used again for the next line.
 
 ghost use Rattle.std.specs.Prelude.{◌≡◌, []};
 ghost use Rattle.lrat_text.specs.Steps.{step_of};
@@ -10,13 +10,17 @@ use dimacs::Lit;
 use std::alloc::Global;
 use std::marker::Model;
 
-/// Holds the step that was read last. Reading takes no memory once the vectors are large enough.
+/// Holds the step that was read last. Reading allocates nothing once the vectors are large enough.
 pub struct StepBuffer {
+    /// Whether the step is a deletion. A deletion uses only `numbers`.
     pub(crate) is_deletion: bool,
+    /// The number of an addition.
     pub(crate) id: u64,
+    /// The literals of an addition.
     pub(crate) literals: Vec<Lit>,
     /// The hints of an addition, or the numbers of a deletion.
     pub(crate) numbers: Vec<u64>,
+    /// The groups of an addition.
     pub(crate) groups: Groups,
 }
 
@@ -56,7 +60,7 @@ impl StepBuffer {
         }
     }
 
-    /// The step, lent part by part.
+    /// Lends the step.
     pub fn as_ref(&self) -> StepRef<'_>
         ensures { step_of result ≡ self.now }
     {
@@ -72,7 +76,7 @@ impl StepBuffer {
         }
     }
 
-    /// The step, with the buffer's vectors.
+    /// Turns the buffer into its step, which takes over the vectors.
     pub(crate) fn into_step(self) -> Step
         ensures { result ≡ self }
     {

@@ -1,4 +1,4 @@
-//! The reader of a text that comes in pieces.
+//! The reader of steps from a text that comes in pieces of any length.
 
 ghost use Rattle.std.specs.Prelude.{◌≡◌, ◌≢◌, ◌++◌, List, [], length, take, MatchResult, OnErr, Ok, Err};
 ghost use Rattle.lrat_text.specs.declared.fault.TextFault.{TextFault};
@@ -25,6 +25,7 @@ impl TakesLines for Vec<Step> {
 
     ghost refuses = { AppendsNone };
 
+    /// Reads a line, and appends its step. A line that spells no step is refused, and nothing is appended.
     fn take_line(&mut self, line: &[u8]) -> Result<(), TextFault> {
         let step = read_step(*self.allocator(), line)?;
         self.push(step)?;
@@ -32,7 +33,8 @@ impl TakesLines for Vec<Step> {
     }
 }
 
-/// Reads the next piece, and appends the steps of the lines that are complete now.
+/// Reads the next piece, and appends the steps of the lines that are complete now. `begun` is the incomplete line; at a fault it is as
+/// before.
 fn read_piece(begun: &mut LineBuffer, piece: &[u8], steps: &mut Vec<Step>) -> Result<(), TextFault>
     ensures steps { MatchResult result
         (λ _. (new : List Step) × (steps.new.items ≡ steps.old.items ++ new) × Splits (begun.old ++ piece.now) new begun.new)
@@ -48,10 +50,13 @@ fn read_piece(begun: &mut LineBuffer, piece: &[u8], steps: &mut Vec<Step>) -> Re
     }
 }
 
-/// Reads a text in any pieces, and gives the steps of its lines. It stores no text except the incomplete line at the end of the last piece.
+/// Reads a text in pieces of any length, and appends the steps of its lines. It stores only the incomplete line at the end of the last
+/// piece.
 #[derive(Drop)]
 pub struct StepReader {
+    /// The incomplete line.
     begun: LineBuffer,
+    /// The fault that was met, if any; never `NoMemory`.
     fault: Option<TextFault>,
 }
 
@@ -67,7 +72,7 @@ impl Model for StepReader {
 }
 
 impl StepReader {
-    /// A reader before the first byte.
+    /// A reader that has read no byte.
     pub fn new(alloc: Global) -> StepReader
         ensures { result ≡ Within [] }
     {
@@ -77,9 +82,9 @@ impl StepReader {
         }
     }
 
-    /// Takes the next piece, and appends the steps of the lines that are complete now. At a line with a fault, the steps of the
-    /// lines before it are appended, and each later call answers the same fault and appends nothing. If memory is refused, nothing
-    /// has changed, and the piece was not taken.
+    /// Reads the next piece, and appends the steps of the lines that are complete now. At a line with a fault, the steps of the lines
+    /// before it are appended, and each later call answers the same fault and appends nothing. If memory is refused, the reader and the
+    /// steps are as before, and the caller may give the same piece again.
     pub fn feed(&mut self, piece: &[u8], steps: &mut Vec<Step>) -> Result<(), TextFault>
         ensures taken { result ≢ Err TextFault.NoMemory → TakesPiece self.old piece.now steps.old.items steps.new.items result self.new }
         ensures failed { (fault : TextFault) → self.old ≡ Failed fault → (result ≡ Err fault) × (self.new ≡ self.old) × (steps.new.items ≡ steps.old.items) }
@@ -102,7 +107,7 @@ impl StepReader {
         }
     }
 
-    /// The end of the text: the fault that was met, or `LineNotEnded` if the text ends within a line. It takes no memory.
+    /// Answers, at the end of the text, the fault that was met, or `LineNotEnded` if the text ends within a line. It allocates nothing.
     pub fn finish(&self) -> Result<(), TextFault>
         ensures { result ≡ end_in self.now }
     {
@@ -117,8 +122,8 @@ impl StepReader {
     }
 }
 
-/// Reads a text that is given in pieces, and appends its steps. It ends at the first fault. If memory is refused, the steps of the
-/// pieces before that have been appended.
+/// Reads a text that is given in pieces, and appends its steps. It ends at the first fault. If memory is refused, the steps of the earlier
+/// pieces stay appended.
 pub fn read_pieces(
     alloc: Global,
     pieces: &[Vec<u8>],

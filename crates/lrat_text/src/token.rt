@@ -1,4 +1,4 @@
-//! The tokens of a line.
+//! Tokens: a line is cut at its spaces, and each word is the letter `d`, a number or neither.
 
 ghost use Rattle.std.specs.Prelude.{◌≡◌, ℕ, ◌<◌, ◌≤◌, ◌^◌, ◌==◌, [], ◌∷◌, length, min, take, drop, Option, Some, IfSome, option_map, option_and_then};
 ghost use Rattle.std.specs.Bool.{OnTrue};
@@ -6,14 +6,14 @@ ghost use Rattle.std.specs.List.{prefix_len, position_or_len};
 ghost use Rattle.std.specs.Str.{byte};
 ghost use Rattle.dimacs.specs.text.Numbers.{digits_from, natural as natural_of, positive, negated};
 ghost use Rattle.lrat_text.specs.Parser.{number_token, token_of, line_tokens};
-ghost use Rattle.lrat_text.specs.inner.Tokens.{is_space, IsCounted, tokens_from};
+ghost use Rattle.lrat_text.specs.inner.Tokens.{is_space, HasNumberInRange, tokens_from};
 
-/// A token of a line. Which tokens may stand at a place is the parser's rule.
+/// A token of a line. The parser decides where which token may stand.
 #[derive(Clone, Copy)]
 pub(crate) enum Token {
-    /// The letter `d`.
+    /// The word `d`.
     Letter,
-    /// The number `0`.
+    /// The word `0`.
     Zero,
     /// A number from 1 to 2^48 - 1.
     Plus(u64),
@@ -23,18 +23,18 @@ pub(crate) enum Token {
     LargePlus,
     /// A minus and a number from 2^48 on.
     LargeMinus,
-    /// Everything else.
+    /// Every other word.
     Other,
 }
 
-/// 2^48, which stands for every number from there on: larger ones are cut to it, so that no sum wraps.
+/// The cap on numbers, 2^48, which stands for every number from there on: larger ones are cut to the cap, so that no sum wraps.
 const CAP: u64 = 281_474_976_710_656;
 
-/// The greatest number of digits on the short path. Up to 14 digits are below the cap. A smaller limit lets more tokens near the end of a
-/// line take the unrolled loop, which needs as many bytes.
+/// The greatest number of digits on the short path. Numbers of up to 14 digits are below the cap. A smaller limit lets more tokens near the
+/// end of a line take the unrolled loop, which needs as many bytes in the line.
 const SHORT: usize = 10;
 
-/// Whether a byte separates tokens: only the space does.
+/// Answers whether a byte separates tokens: only the space does.
 #[inline(always)]
 pub(crate) fn is_space(byte: u8) -> bool
     ensures { result ≡ is_space byte }
@@ -42,7 +42,7 @@ pub(crate) fn is_space(byte: u8) -> bool
     byte == b' '
 }
 
-/// The number of spaces at the beginning of a text.
+/// Counts the spaces at the beginning of a text.
 #[inline(always)]
 fn space_len(text: &[u8]) -> usize
     ensures value { result ≡ prefix_len is_space text.now }
@@ -56,7 +56,7 @@ fn space_len(text: &[u8]) -> usize
     text.len()
 }
 
-/// The number of bytes before the first space.
+/// Counts the bytes before the first space; the text's length if there is none.
 pub(crate) fn word_len(text: &[u8]) -> usize
     ensures value { result ≡ position_or_len is_space text.now }
     ensures bound { result ≤ length text.now }
@@ -69,7 +69,8 @@ pub(crate) fn word_len(text: &[u8]) -> usize
     text.len()
 }
 
-/// The word before the first space: its value if it is digits, cut to the cap, and its length.
+/// Reads the word before the first space: answers its value (at most 2^48, the cap) and its length. The value is `None` if a byte is no
+/// digit. The empty word has the value 0.
 #[inline(always)]
 fn digits(text: &[u8]) -> (Option<u64>, usize)
     ensures len { result.1 ≡ position_or_len is_space text.now }
@@ -91,8 +92,8 @@ fn digits(text: &[u8]) -> (Option<u64>, usize)
     (Some(value), text.len())
 }
 
-/// The word before the first space: its value if it is a number without a sign, cut to the cap, and its length. Only `0` itself may begin
-/// with `0`.
+/// Reads the word before the first space: answers its value (at most 2^48, the cap) and its length. The value is `None` if the word is no
+/// number without a sign; only `0` itself may begin with `0`.
 #[inline(always)]
 fn natural(text: &[u8]) -> (Option<u64>, usize)
     ensures len { result.1 ≡ position_or_len is_space text.now }
@@ -110,11 +111,11 @@ fn natural(text: &[u8]) -> (Option<u64>, usize)
     (value, len)
 }
 
-/// The token of a number without a sign.
+/// Makes the token of a word without a minus from its value (at most 2^48); `Other` if the word is no number.
 #[inline(always)]
 fn plus_token(size: Option<u64>) -> Token
     ensures token { (n : Option ℕ) → size ≡ option_map (min (2 ^ 48)) n → result ≡ number_token (option_and_then positive n) }
-    ensures counted { IsCounted result }
+    ensures counted { HasNumberInRange result }
 {
     match size {
         None => Token::Other,
@@ -130,11 +131,11 @@ fn plus_token(size: Option<u64>) -> Token
     }
 }
 
-/// The token of a minus and a number.
+/// Makes the token of a word that begins with a minus from the value after the minus (at most 2^48); `Other` if that is `0` or no number.
 #[inline(always)]
 fn minus_token(size: Option<u64>) -> Token
     ensures token { (n : Option ℕ) → size ≡ option_map (min (2 ^ 48)) n → result ≡ number_token (option_and_then negated n) }
-    ensures counted { IsCounted result }
+    ensures counted { HasNumberInRange result }
 {
     match size {
         None => Token::Other,
@@ -150,8 +151,8 @@ fn minus_token(size: Option<u64>) -> Token
     }
 }
 
-/// The number before the first space, if its first digit is 1 to 9 and it has at most `end` digits, and how many digits it has. `None`
-/// for everything else.
+/// Reads the number before the first space: answers its value and its number of digits. `None` unless it has 1 to `end` digits and the
+/// first one is 1 to 9.
 #[inline(always)]
 fn short_number_within(text: &[u8], end: usize) -> Option<(u64, usize)>
     requires few { end ≤ 14 }
@@ -177,13 +178,13 @@ fn short_number_within(text: &[u8], end: usize) -> Option<(u64, usize)>
     Some((value, len))
 }
 
-/// The number before the first space, if its first digit is 1 to 9 and it has at most 10 digits, and how many digits it has. `None` for
-/// everything else.
+/// Reads the number before the first space: answers its value and its number of digits. `None` unless it has 1 to 10 digits and the first
+/// one is 1 to 9.
 ///
-/// Nearly every token of a proof is such a number, and a check spends most of its time on tokens. So few digits need no cap, and
-/// the caller gets the value without a match on all tokens: a check takes an eighth less time than with one function for every
-/// token. If 10 bytes are left, which is the usual case, the loop has a constant end and is unrolled, so each digit's branch has
-/// its own entry in the branch predictor.
+/// Nearly every token of a proof is such a number, and a check spends most of its time on tokens. So few digits need no cap, and the caller
+/// gets the value without a match on all tokens: a check takes an eighth less time than with one function for every token. If 10 bytes are
+/// left, which is the usual case, the loop has a constant end and is unrolled, so each digit's branch has its own entry in the branch
+/// predictor.
 #[inline(always)]
 pub(crate) fn short_number(text: &[u8]) -> Option<(u64, usize)>
     ensures len { IfSome result (λ p. p.1 ≡ position_or_len is_space text.now) }
@@ -199,7 +200,7 @@ pub(crate) fn short_number(text: &[u8]) -> Option<(u64, usize)>
     }
 }
 
-/// Whether the token before the first space is `0`.
+/// Answers whether the token before the first space is `0`.
 #[inline(always)]
 fn begins_with_zero(text: &[u8]) -> bool
     ensures { OnTrue result ((position_or_len is_space text.now ≡ 1) × (take 1 text.now ≡ byte "0" ∷ []) × (1 ≤ length text.now)) }
@@ -207,14 +208,15 @@ fn begins_with_zero(text: &[u8]) -> bool
     !text.is_empty() && text[0] == b'0' && (text.len() == 1 || is_space(text[1]))
 }
 
-/// The first token of a text that begins with one, by the slow path that reads every token, and its length.
+/// Reads the first token of a text that begins with one: answers the token and its length in bytes. This is the slow path, which knows
+/// every kind of token.
 #[inline(never)]
 fn any_token(text: &[u8]) -> (Token, usize)
     requires some { 0 < length text.now }
     ensures len { result.1 ≡ position_or_len is_space text.now }
     ensures bound { result.1 ≤ length text.now }
     ensures token { result.0 ≡ token_of (take result.1 text.now) }
-    ensures counted { IsCounted result.0 }
+    ensures counted { HasNumberInRange result.0 }
 {
     if text[0] == b'-' {
         let (size, len) = natural(&text[1..]);
@@ -227,14 +229,14 @@ fn any_token(text: &[u8]) -> (Token, usize)
     (plus_token(size), len)
 }
 
-/// The first token of a text that begins with one, and its length.
+/// Reads the first token of a text that begins with one: answers the token and its length in bytes. Short numbers take the fast path.
 #[inline(always)]
 fn first_token(text: &[u8]) -> (Token, usize)
     requires some { 0 < length text.now }
     ensures len { result.1 ≡ position_or_len is_space text.now }
     ensures bound { result.1 ≤ length text.now }
     ensures token { result.0 ≡ token_of (take result.1 text.now) }
-    ensures counted { IsCounted result.0 }
+    ensures counted { HasNumberInRange result.0 }
 {
     if let Some((n, len)) = short_number(text) {
         return (Token::Plus(n), len);
@@ -250,7 +252,8 @@ fn first_token(text: &[u8]) -> (Token, usize)
     any_token(text)
 }
 
-/// What follows the first token, which has `len` bytes, and the space after it. So the next token mostly begins the rest.
+/// Answers the text after its first token, which has `len` bytes, and after one space if there is one. So the next token mostly begins the
+/// answer.
 #[inline(always)]
 pub(crate) fn after_token(text: &[u8], len: usize) -> &[u8]
     requires len { len ≡ position_or_len is_space text.now }
@@ -265,11 +268,11 @@ pub(crate) fn after_token(text: &[u8], len: usize) -> &[u8]
     }
 }
 
-/// The next token of a line, and what follows it, mostly without the space between them.
+/// Reads the next token of a line: answers the token, and the text after it and after one space. `None` if only spaces are left.
 #[inline(always)]
 pub(crate) fn next_token(line: &[u8]) -> Option<(Token, &[u8])>
     ensures token { line_tokens line.now ≡ tokens_from result }
-    ensures counted { IfSome result (λ p. IsCounted p.0) }
+    ensures counted { IfSome result (λ p. HasNumberInRange p.0) }
     ensures shorter { IfSome result (λ p. length p.1.now < length line.now) }
 {
     let text = &line[space_len(line)..];

@@ -1,5 +1,5 @@
-//! Blocks of up to 16 tokens, each after a space. A block is written backwards into an array on the stack, so that it is appended to a text
-//! by one call.
+//! Writers of token blocks: up to 16 tokens, each after a space. A block is written backwards into an array on the stack, so that one call
+//! appends it to a text.
 
 ghost use Rattle.std.specs.Prelude.{◌≡◌, ◌+◌, ◌≤◌, ◌++◌, length, drop, flat_map};
 ghost use Rattle.lrat_text.specs.inner.LineParts.{number_text, literal_text};
@@ -13,7 +13,7 @@ pub(crate) const MANY: usize = 16;
 /// The length of the array in bytes: a token has at most a space, a minus and 20 digits.
 pub(crate) const ROOM: usize = 22 * MANY;
 
-/// Writes a space and a number so that they end at `end`, and answers where they begin.
+/// Writes a space and a number so that they end before offset `end`, and answers the offset of the space.
 #[inline(always)]
 fn write_number(room: &mut [u8], number: u64, end: usize) -> usize
     requires { (22 ≤ end) × (end ≤ length room.old) }
@@ -26,7 +26,7 @@ fn write_number(room: &mut [u8], number: u64, end: usize) -> usize
     digits - 1
 }
 
-/// Writes a space and a literal so that they end at `end`, and answers where they begin.
+/// Writes a space and a literal so that they end before offset `end`, and answers the offset of the space.
 #[inline(always)]
 fn write_literal(room: &mut [u8], literal: Lit, end: usize) -> usize
     requires { (22 ≤ end) × (end ≤ length room.old) }
@@ -44,7 +44,7 @@ fn write_literal(room: &mut [u8], literal: Lit, end: usize) -> usize
     digits - 1
 }
 
-/// Writes numbers at the end of the array, and answers where they begin.
+/// Writes at most 16 numbers at the end of the array, each after a space, and answers the offset of the first space.
 pub(crate) fn write_numbers(room: &mut [u8; ROOM], numbers: &[u64]) -> usize
     requires { length numbers.now ≤ 16 }
     ensures start { result ≤ 352 }
@@ -57,7 +57,7 @@ pub(crate) fn write_numbers(room: &mut [u8; ROOM], numbers: &[u64]) -> usize
     start
 }
 
-/// Writes literals at the end of the array, and answers where they begin.
+/// Writes at most 16 literals at the end of the array, each after a space, and answers the offset of the first space.
 pub(crate) fn write_literals(room: &mut [u8; ROOM], literals: &[Lit]) -> usize
     requires { length literals.now ≤ 16 }
     ensures start { result ≤ 352 }

@@ -1,4 +1,4 @@
-//! Lines whose literals are copied as text: if only clause numbers change, the literals need not be read.
+//! Additions whose literals are copied as text: if only clause numbers change, the literals need not be parsed.
 
 ghost use Rattle.std.specs.Prelude.{◌≡◌, ℕ, ◌+◌, ◌-◌, ◌<◌, ◌≤◌, ◌^◌, false, ◌++◌, List, [], length, take, drop, None, Ok, OnOk, OnErr, IfOk, IfErr, decimal, option_map};
 ghost use Rattle.dimacs.specs.logic.Literal.{Literal};
@@ -19,10 +19,10 @@ use crate::token::word_len;
 use crate::writer::{put_number, put_reasons, put_text};
 use std::alloc::AllocError;
 
-/// How many places are searched at once, without a branch. Compared with one place at a time, a join takes a tenth less time.
+/// The number of offsets that are searched at once, without a branch. Compared with one offset at a time, a join takes a tenth less time.
 const MANY: usize = 16;
 
-/// Whether a space followed by a `0` stands at one of the next 16 places.
+/// Answers whether a space followed by a `0` begins at one of the 16 offsets from `from` on.
 #[inline(always)]
 fn has_zero(line: &[u8], from: usize) -> bool
     requires { from + 16 < length line.now }
@@ -35,7 +35,7 @@ fn has_zero(line: &[u8], from: usize) -> bool
     found
 }
 
-/// The place of the first space that is followed by a `0`, if there is none before `from`; the length if there is none at all.
+/// Answers the offset of the first space that is followed by a `0`, of those from `from` on; the line's length if there is none.
 fn zero_from(line: &[u8], from: usize) -> usize
     requires { from ≤ length line.now }
     ensures value { result ≡ from + zero_at (drop from line.now) }
@@ -49,7 +49,7 @@ fn zero_from(line: &[u8], from: usize) -> usize
     line.len()
 }
 
-/// The place of the first space that is followed by a `0`; the length if there is none.
+/// Answers the offset of the first space that is followed by a `0`; the line's length if there is none.
 fn zero_at(line: &[u8]) -> usize
     ensures value { result ≡ zero_at line.now }
     ensures bound { result ≤ length line.now }
@@ -61,7 +61,7 @@ fn zero_at(line: &[u8]) -> usize
     zero_from(line, from)
 }
 
-/// The bytes between two places of a line, and those after the second place.
+/// Lends the bytes of a line from offset `start` to before offset `end`, and those from `end` on.
 #[inline(always)]
 fn cut_out(line: &[u8], start: usize, end: usize) -> (&[u8], &[u8])
     requires { (start ≤ end) × (end ≤ length line.now) }
@@ -72,7 +72,7 @@ fn cut_out(line: &[u8], start: usize, end: usize) -> (&[u8], &[u8])
 }
 
 impl StepBuffer {
-    /// Sets the buffer to an addition without literals, and reads its hints and groups.
+    /// Sets the buffer to an addition with the number `id` and no literals, and reads its hints and groups.
     fn read_reasons(&mut self, id: u64, text: &[u8]) -> Result<(), TextFault>
         ensures { GivesStep self.new result (hints_in id [] [] (line_tokens text.now)) }
     {
@@ -85,12 +85,11 @@ impl StepBuffer {
     }
 }
 
-/// Reads an addition's line except its literals, if the line is exactly what [`put_ref`](crate::put_ref) writes. The buffer holds
-/// the addition without literals, and the answer is their text. For a deletion, and for a line with more spaces than it needs,
-/// the answer is `None`, and the buffer is as before.
+/// Reads an addition's line except its literals: the buffer then holds the addition without literals, and the answer is the literals' text.
+/// `None` for a deletion, and for a line that is not exactly what [`put_ref`](crate::put_ref) writes; the buffer is then as before.
 ///
-/// The caller knows that the line spells a step with variables up to some limit below 2^48. The literals end at the first ` 0`,
-/// since no literal begins with 0.
+/// The caller knows that the line spells a step with variables up to some limit below 2^48. The literals end at the first ` 0`, since no
+/// literal begins with 0.
 pub fn read_without_literals_within<'a>(
     buffer: &mut StepBuffer,
     line: &'a [u8],
@@ -108,7 +107,9 @@ pub fn read_without_literals_within<'a>(
     Ok(Some(literals))
 }
 
-/// As [`read_without_literals_within`], for variables up to 2,000,000.
+/// Reads an addition's line except its literals, whose text is the answer. `None` for a deletion,
+/// and for a line that is not exactly what [`put_ref`](crate::put_ref) writes; the buffer is then
+/// as before. The caller knows that the line spells a step with variables up to 2,000,000.
 pub fn read_without_literals<'a>(
     buffer: &mut StepBuffer,
     line: &'a [u8],
@@ -121,7 +122,7 @@ pub fn read_without_literals<'a>(
     read_without_literals_within(buffer, line)
 }
 
-/// Appends an addition's line, or a prefix of it if memory is refused.
+/// Appends an addition's line, whose literals are given as text. If memory is refused, a prefix of the line may have been appended.
 fn put_parts(
     out: &mut Vec<u8>,
     id: u64,
@@ -137,9 +138,8 @@ fn put_parts(
     put_reasons(out, hints, groups)
 }
 
-/// Appends the line of an addition whose literals are given as text, as [`put`](crate::put) does of a step.
-///
-/// If memory is refused, `out` is as before.
+/// Appends an addition's line, whose literals are given as text: single spaces, and an LF at the
+/// end. If memory is refused, `out` is as before.
 pub fn put_with_literal_text(
     id: u64,
     literals: &[u8],

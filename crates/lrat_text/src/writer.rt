@@ -1,4 +1,5 @@
-//! Writing the lines of steps.
+//! The writer of steps as lines. After a refusal of memory, a private function may have appended a prefix of its text; the public ones undo
+//! that.
 
 ghost use Rattle.std.specs.Prelude.{◌≡◌, ℕ, ◌^◌, ◌<◌, ◌≤◌, ◌++◌, length, OnOk, OnErr, decimal, flat_map};
 ghost use Rattle.lrat_text.specs.Grammar.{IsStep, IsStepWithin, IsClauseNumber};
@@ -13,6 +14,7 @@ use dimacs::Lit;
 use itoa::Buffer;
 use std::alloc::AllocError;
 
+/// Appends a text.
 #[inline(always)]
 pub(crate) fn put_text(out: &mut Vec<u8>, text: &[u8]) -> Result<(), AllocError>
     ensures ok { OnOk result (out.new.items ≡ out.old.items ++ text.now) }
@@ -21,6 +23,7 @@ pub(crate) fn put_text(out: &mut Vec<u8>, text: &[u8]) -> Result<(), AllocError>
     out.extend_from_slice(text)
 }
 
+/// Appends a number in decimal, without a space.
 pub(crate) fn put_number(out: &mut Vec<u8>, number: u64) -> Result<(), AllocError>
     ensures ok { OnOk result (out.new.items ≡ out.old.items ++ decimal number) }
     ensures begins { Begins out.old.items out.new.items }
@@ -30,7 +33,7 @@ pub(crate) fn put_number(out: &mut Vec<u8>, number: u64) -> Result<(), AllocErro
     put_text(out, text.as_bytes())
 }
 
-/// Appends a block of at most 16 literals, each after a space.
+/// Appends at most 16 literals, each after a space.
 fn put_few_literals(out: &mut Vec<u8>, literals: &[Lit]) -> Result<(), AllocError>
     requires { length literals.now ≤ 16 }
     ensures ok { OnOk result (out.new.items ≡ out.old.items ++ flat_map literal_text literals.now) }
@@ -41,6 +44,7 @@ fn put_few_literals(out: &mut Vec<u8>, literals: &[Lit]) -> Result<(), AllocErro
     put_text(out, &room[start..])
 }
 
+/// Appends literals, each after a space, in blocks of 16.
 fn put_literals(out: &mut Vec<u8>, literals: &[Lit]) -> Result<(), AllocError>
     ensures ok { OnOk result (out.new.items ≡ out.old.items ++ flat_map literal_text literals.now) }
     ensures begins { Begins out.old.items out.new.items }
@@ -54,7 +58,7 @@ fn put_literals(out: &mut Vec<u8>, literals: &[Lit]) -> Result<(), AllocError>
     Ok(())
 }
 
-/// Appends a block of at most 16 numbers, each after a space.
+/// Appends at most 16 numbers, each after a space.
 fn put_few_numbers(out: &mut Vec<u8>, numbers: &[u64]) -> Result<(), AllocError>
     requires { length numbers.now ≤ 16 }
     ensures ok { OnOk result (out.new.items ≡ out.old.items ++ flat_map number_text numbers.now) }
@@ -65,6 +69,7 @@ fn put_few_numbers(out: &mut Vec<u8>, numbers: &[u64]) -> Result<(), AllocError>
     put_text(out, &room[start..])
 }
 
+/// Appends numbers, each after a space, in blocks of 16.
 fn put_numbers(out: &mut Vec<u8>, numbers: &[u64]) -> Result<(), AllocError>
     ensures ok { OnOk result (out.new.items ≡ out.old.items ++ flat_map number_text numbers.now) }
     ensures begins { Begins out.old.items out.new.items }
@@ -78,6 +83,7 @@ fn put_numbers(out: &mut Vec<u8>, numbers: &[u64]) -> Result<(), AllocError>
     Ok(())
 }
 
+/// Appends a group: its candidate after a space and a minus, then its hints, each after a space.
 fn put_group(out: &mut Vec<u8>, candidate: u64, hints: &[u64]) -> Result<(), AllocError>
     ensures ok { OnOk result (out.new.items ≡ out.old.items ++ group_text (candidate, hints.now)) }
     ensures begins { Begins out.old.items out.new.items }
@@ -87,6 +93,7 @@ fn put_group(out: &mut Vec<u8>, candidate: u64, hints: &[u64]) -> Result<(), All
     put_numbers(out, hints)
 }
 
+/// Appends all groups.
 fn put_groups(out: &mut Vec<u8>, groups: &Groups) -> Result<(), AllocError>
     ensures ok { OnOk result (out.new.items ≡ out.old.items ++ flat_map group_text groups.now) }
     ensures begins { Begins out.old.items out.new.items }
@@ -98,6 +105,7 @@ fn put_groups(out: &mut Vec<u8>, groups: &Groups) -> Result<(), AllocError>
     Ok(())
 }
 
+/// Appends the first part of an addition: its number, its literals and ` 0`.
 fn put_lemma(out: &mut Vec<u8>, id: u64, lits: &[Lit]) -> Result<(), AllocError>
     ensures ok { OnOk result (out.new.items ≡ out.old.items ++ lemma_text id lits.now) }
     ensures begins { Begins out.old.items out.new.items }
@@ -107,6 +115,7 @@ fn put_lemma(out: &mut Vec<u8>, id: u64, lits: &[Lit]) -> Result<(), AllocError>
     put_text(out, b" 0")
 }
 
+/// Appends the second part of an addition: its hints, its groups, ` 0` and LF.
 pub(crate) fn put_reasons(
     out: &mut Vec<u8>,
     hints: &[u64],
@@ -120,6 +129,7 @@ pub(crate) fn put_reasons(
     put_text(out, b" 0\n")
 }
 
+/// Appends the line of an addition.
 fn put_addition(
     out: &mut Vec<u8>,
     id: u64,
@@ -134,6 +144,7 @@ fn put_addition(
     put_reasons(out, hints, groups)
 }
 
+/// Appends the line of a deletion, which begins with the number `top`.
 fn put_deletion(out: &mut Vec<u8>, top: u64, ids: &[u64]) -> Result<(), AllocError>
     ensures ok { OnOk result (out.new.items ≡ out.old.items ++ deletion_text top ids.now) }
     ensures begins { Begins out.old.items out.new.items }
@@ -144,6 +155,7 @@ fn put_deletion(out: &mut Vec<u8>, top: u64, ids: &[u64]) -> Result<(), AllocErr
     put_text(out, b" 0\n")
 }
 
+/// Appends the line of a borrowed step; that of a deletion begins with the number `top`.
 #[tactic(auto, using(crate::proofs::WrittenLineLemmas::lines_written))]
 fn put_step(step: StepRef<'_>, top: u64, out: &mut Vec<u8>) -> Result<(), AllocError>
     ensures ok { OnOk result (out.new.items ≡ out.old.items ++ line_of top (step_of step.entry)) }
@@ -160,7 +172,9 @@ fn put_step(step: StepRef<'_>, top: u64, out: &mut Vec<u8>) -> Result<(), AllocE
     }
 }
 
-/// Appends the line of a borrowed step, as [`put`] does, with variables up to any limit below 2^48.
+/// Appends the line of a borrowed step with variables up to any limit below 2^48, with single
+/// spaces and an LF. The line of a deletion begins with the number `top`, which readers ignore. If
+/// memory is refused, `out` is as before.
 pub fn put_ref_within(step: StepRef<'_>, top: u64, out: &mut Vec<u8>) -> Result<(), AllocError>
     requires limits { (most : ℕ) × (most < 2 ^ 48) × IsStepWithin most (step_of step) }
     requires numbered { IsClauseNumber top }
@@ -175,7 +189,9 @@ pub fn put_ref_within(step: StepRef<'_>, top: u64, out: &mut Vec<u8>) -> Result<
     written
 }
 
-/// Appends the line of a borrowed step, as [`put`] does.
+/// Appends the line of a borrowed step with variables up to 2,000,000, with single spaces and an
+/// LF. The line of a deletion begins with the number `top`, which readers ignore. If memory is
+/// refused, `out` is as before.
 pub fn put_ref(step: StepRef<'_>, top: u64, out: &mut Vec<u8>) -> Result<(), AllocError>
     requires limits { IsStep (step_of step) }
     requires numbered { IsClauseNumber top }
@@ -185,9 +201,8 @@ pub fn put_ref(step: StepRef<'_>, top: u64, out: &mut Vec<u8>) -> Result<(), All
     put_ref_within(step, top, out)
 }
 
-/// Appends a step's line, with single spaces and an LF. The line of a deletion begins with the number `top`, which readers ignore.
-///
-/// If memory is refused, `out` is as before.
+/// Appends a step's line, with single spaces and an LF. The line of a deletion begins with the number `top`, which readers ignore. If
+/// memory is refused, `out` is as before.
 pub fn put(step: &Step, top: u64, out: &mut Vec<u8>) -> Result<(), AllocError>
     requires limits { IsStep step.now }
     requires numbered { IsClauseNumber top }

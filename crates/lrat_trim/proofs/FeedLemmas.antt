@@ -12,7 +12,7 @@ use Rattle.lrat_trim.specs.TrimmedProof.{TrimProgress, HasTaken, IsTrimmed, Trim
 use Rattle.lrat_trim.specs.declared.trimmer.Trimmed.{Trimmed}
 
 failed : (p : CheckProgress) (fault : CheckFault) → Err fault ≡ answer_in p → p ≡ Failed fault
-failed (Within s line begun) fault e = absurd (let other : Err fault ≡ Ok tt = e in cc)
+failed (Within most s line begun) fault e = absurd (let other : Err fault ≡ Ok tt = e in cc)
 failed (Failed f) fault e = ap Failed (let same : f ≡ fault = cc in same)
 
 -- the checker refuses the piece, so it is not held

@@ -1,5 +1,5 @@
 -- A line has the letter d if and only if it deletes, so two bytes count the lemmas.
-use Rattle.std.proofs.Common.{◌≡◌, ℕ, ◌+◌, ◌-◌, ◌<◌, ◌≤◌, Bool, true, false, ◌==◌, cond, List, [], ◌∷◌, ◌++◌, map, length, codes, decimal, Contains, refl, sym, ◌∙◌, ap, subst, arith}
+use Rattle.std.proofs.Common.{◌≡◌, ℕ, ◌+◌, ◌-◌, ◌*◌, ◌^◌, ◌<◌, ◌≤◌, max, Bool, true, false, ◌==◌, cond, List, [], ◌∷◌, ◌++◌, map, length, codes, decimal, Contains, refl, sym, ◌∙◌, ap, subst, arith}
 use Rattle.std.specs.List.{AllByRecursion, count_by, slice_split, onto_first, filter, flat_map}
 use Rattle.std.proofs.lemmas.Bool.{ne_eqb, eqb-true}
 use Rattle.std.proofs.lemmas.List.Elements.{recursion_from_All}
@@ -9,8 +9,10 @@ use Rattle.dimacs.specs.logic.Literal.{Literal, Pos, Neg, IsWithin}
 use Rattle.dimacs.specs.logic.Rat.{Group}
 use Rattle.dimacs.specs.text.Words.{is_some_byte}
 use Rattle.dimacs.proofs.Members.{Contains-head, Contains-cons}
-use Rattle.lrat_text.specs.Grammar.{tokens, IsClauseNumber, IsGroup, IsStep, literal_token, group_tokens, step_tokens, SpellsStep, LineSpells}
+use Rattle.lrat_text.specs.Grammar.{tokens, IsClauseNumber, IsGroup, IsStepWithin, literal_token, group_tokens, step_tokens, SpellsStepWithin, LineSpellsWithin}
+use Rattle.dimacs.specs.logic.Cnf.{Cnf}
 use Rattle.lrat_text.specs.Log.{additions}
+use Rattle.lrat_text.specs.Proof.{proof_top}
 use Rattle.lrat_text.specs.inner.Tokens.{is_space}
 use Rattle.lrat_text.specs.declared.step.Step.{Step}
 use Rattle.lrat_text.specs.declared.step.Step.TheVariants.{Add, Delete}
@@ -59,13 +61,13 @@ numbers_plain : (ns : List ℕ) → AllByRecursion IsClauseNumber ns → letters
 numbers_plain [] h = refl
 numbers_plain (n ∷ ns) h = omega (arith, decimal_plain n h.0, numbers_plain ns h.1)
 
-literal_plain : (l : Literal) → IsWithin 2000000 l → often 100 (literal_token l) ≡ 0
-literal_plain (Pos v) h = decimal_plain v (omega (arith, h.0), omega (arith, h.1))
-literal_plain (Neg v) h = ap (often 100) (negative_token v (omega (arith, h.0))) ∙ minus_plain v (omega (arith, h.0), omega (arith, h.1))
+literal_plain : (most : ℕ) → most < 2 ^ 48 → (l : Literal) → IsWithin most l → often 100 (literal_token l) ≡ 0
+literal_plain most few (Pos v) h = decimal_plain v (omega (arith, h.0), omega (arith, h.1))
+literal_plain most few (Neg v) h = ap (often 100) (negative_token v (omega (arith, h.0))) ∙ minus_plain v (omega (arith, h.0), omega (arith, h.1))
 
-literals_plain : (ls : List Literal) → AllByRecursion (IsWithin 2000000) ls → letters (map literal_token ls) ≡ 0
-literals_plain [] h = refl
-literals_plain (l ∷ ls) h = omega (arith, literal_plain l h.0, literals_plain ls h.1)
+literals_plain : (most : ℕ) → most < 2 ^ 48 → (ls : List Literal) → AllByRecursion (IsWithin most) ls → letters (map literal_token ls) ≡ 0
+literals_plain most few [] h = refl
+literals_plain most few (l ∷ ls) h = omega (arith, literal_plain most few l h.0, literals_plain most few ls h.1)
 
 groups_plain : (gs : List Group) → AllByRecursion IsGroup gs → letters (flat_map group_tokens gs) ≡ 0
 groups_plain [] h = refl
@@ -82,14 +84,14 @@ abbrev pub letters_of : Step → ℕ
 letters_of (Add id lits hints groups) = 0
 letters_of (Delete ids) = 1
 
-step_letters : (top : ℕ) (step : Step) → IsClauseNumber top → IsStep step → letters (step_tokens top step) ≡ letters_of step
-step_letters top (Add id lits hints groups) n h =
+step_letters : (most : ℕ) → most < 2 ^ 48 → (top : ℕ) (step : Step) → IsClauseNumber top → IsStepWithin most step → letters (step_tokens top step) ≡ letters_of step
+step_letters most few top (Add id lits hints groups) n h =
     let literal_words = map literal_token lits in
     let hint_words = map decimal hints in
     let group_words = flat_map group_tokens groups in
     let zero = codes "0" ∷ [] in
     let first = decimal_plain id h.0 in
-    let lit = literals_plain lits (recursion_from_All (IsWithin 2000000) lits h.1) in
+    let lit = literals_plain most few lits (recursion_from_All (IsWithin most) lits h.1) in
     let hint = numbers_plain hints (recursion_from_All IsClauseNumber hints h.2) in
     let group = groups_plain groups (recursion_from_All IsGroup groups h.3) in
     let rest = hint_words ++ group_words ++ zero in
@@ -105,7 +107,7 @@ step_letters top (Add id lits hints groups) n h =
       zero_first [],
       letters-append hint_words group_words,
     )
-step_letters top (Delete ids) n h =
+step_letters most few top (Delete ids) n h =
     let first = decimal_plain top n in
     let id = numbers_plain ids (recursion_from_All IsClauseNumber ids h) in
     let letter : often 100 (codes "d") ≡ 1 = refl in
@@ -138,9 +140,9 @@ filter_letters [] = refl
 filter_letters ([] ∷ ws) = let r = filter_letters ws in omega (arith, r)
 filter_letters ((b ∷ bs) ∷ ws) = ap (λ n. often 100 (b ∷ bs) + n) (filter_letters ws)
 
-line_letters : (line : List ℕ) (step : Step) → SpellsStep line step → often 100 line ≡ letters_of step
-line_letters line step s =
-    sym (split_letters line) ∙ sym (filter_letters (slice_split is_space line)) ∙ ap letters s.spelled ∙ step_letters s.top step s.numbered s.limits
+line_letters : (most : ℕ) → most < 2 ^ 48 → (line : List ℕ) (step : Step) → SpellsStepWithin most line step → often 100 line ≡ letters_of step
+line_letters most few line step s =
+    sym (split_letters line) ∙ sym (filter_letters (slice_split is_space line)) ∙ ap letters s.spelled ∙ step_letters most few s.top step s.numbered s.limits
 
 -- ---- a text
 
@@ -158,18 +160,20 @@ one_more own rest n letters_own more ends has later one =
     let d : often 100 (10 ∷ rest) ≡ 0 + often 100 rest = often_cons 100 10 rest in
     omega (arith, a, b, c, d, ends, has, later, one)
 
-text_letters : (text : List ℕ) (steps : List Step) → LineSpells text steps → often 10 text ≡ additions steps + often 100 text
-text_letters text [] e =
+text_letters : (most : ℕ) → most < 2 ^ 48 → (text : List ℕ) (steps : List Step) → LineSpellsWithin most text steps → often 10 text ≡ additions steps + often 100 text
+text_letters most few text [] e =
     let a : often 10 text ≡ 0 = ap (often 10) e in
     let b : often 100 text ≡ 0 = ap (often 100) e in
     omega (arith, a, b)
-text_letters text (Add id lits hints groups ∷ steps) (own, rest, splits, one, spells, more) =
+text_letters most few text (Add id lits hints groups ∷ steps) (own, rest, splits, one, spells, more) =
     subst (λ t. often 10 t ≡ 1 + additions steps + often 100 t) (sym splits)
-    (one_more own rest 1 0 (additions steps) (no_end own one) (line_letters own (Add id lits hints groups) spells) (text_letters rest steps more) refl)
-text_letters text (Delete ids ∷ steps) (own, rest, splits, one, spells, more) =
+    (one_more own rest 1 0 (additions steps) (no_end own one) (line_letters most few own (Add id lits hints groups) spells) (text_letters most few rest steps more) refl)
+text_letters most few text (Delete ids ∷ steps) (own, rest, splits, one, spells, more) =
     subst (λ t. often 10 t ≡ additions steps + often 100 t) (sym splits)
-    (let r = one_more own rest 0 1 (additions steps) (no_end own one) (line_letters own (Delete ids) spells) (text_letters rest steps more) refl in omega (arith, r))
+    (let r = one_more own rest 0 1 (additions steps) (no_end own one) (line_letters most few own (Delete ids) spells) (text_letters most few rest steps more) refl in omega (arith, r))
 
 -- the lemmas of a text that spells steps
-pub lemmas_are : (n : ℕ) (text : List ℕ) (steps : List Step) → LineSpells text steps → n ≡ lemmas_in text → HasLemmas n text
-lemmas_are n text steps spells is = (steps, spells, omega (arith, text_letters text steps spells, is))
+pub lemmas_are : (F : Cnf) → F.vars ≤ 99999999 → (n : ℕ) (text : List ℕ) (steps : List Step) → LineSpellsWithin (proof_top F) text steps → n ≡ lemmas_in text → HasLemmas F n text
+lemmas_are F small n text steps spells is =
+    let few : max 2000000 (2 * F.vars) < 2 ^ 48 = omega arith in
+    (steps, spells, omega (arith, text_letters (proof_top F) few text steps spells, is))

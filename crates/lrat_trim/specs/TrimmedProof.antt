@@ -1,9 +1,9 @@
 -- What trimming a proof answers, and the state of trimming between two pieces.
 use Rattle.std.specs.Prelude.{◌≡◌, ◌⊎◌, ℕ, ◌≤◌, Bool, true, false, List, Result, Ok, Err}
 use Rattle.dimacs.specs.logic.Cnf.{Cnf}
-use Rattle.lrat_text.specs.Grammar.{LineSpells}
+use Rattle.lrat_text.specs.Grammar.{LineSpellsWithin}
 use Rattle.lrat_text.specs.Log.{additions}
-use Rattle.lrat_text.specs.Proof.{Accepts}
+use Rattle.lrat_text.specs.Proof.{Accepts, proof_top}
 use Rattle.lrat_text.specs.declared.step.Step.{Step}
 use Rattle.lrat_check.specs.ProofFaults.{check_of, no_memory}
 use Rattle.lrat_check.specs.Stream
@@ -11,15 +11,15 @@ use Rattle.lrat_check.specs.Stream.{CheckProgress, Failed}
 use Rattle.lrat_check.specs.declared.line_checker.CheckFault.{CheckFault}
 use Rattle.lrat_trim.specs.declared.trimmer.Trimmed.{Trimmed}
 
--- the text spells steps, exactly n of which are additions
-abbrev pub HasLemmas : ℕ → List ℕ → Type 0
-HasLemmas n text = (steps : List Step) × LineSpells text steps × (additions steps ≡ n)
+-- the text spells steps of a proof of the formula, exactly n of which are additions
+abbrev pub HasLemmas : Cnf → ℕ → List ℕ → Type 0
+HasLemmas F n text = (steps : List Step) × LineSpellsWithin (proof_top F) text steps × (additions steps ≡ n)
 
 -- t has an accepted proof of F with no more lemmas than `proof`, and the numbers of lemmas of both
 pub record IsTrimmed (F : Cnf) (proof : List ℕ) (t : Trimmed) : Type 0 where
   pub accepted : Accepts F t.text
-  pub kept : HasLemmas t.kept t.text
-  pub all : HasLemmas t.all proof
+  pub kept : HasLemmas F t.kept t.text
+  pub all : HasLemmas F t.all proof
   pub fewer : t.kept ≤ t.all
 
 -- the answer of trimming: an accepted proof is trimmed, and any other text has the fault that checking it gives; or memory was refused

@@ -54,7 +54,7 @@ impl Lemmas {
         }
     }
 
-    /// Returns the number of the formula's clauses.
+    /// Returns the number of the formula's clauses; greater numbers are lemmas'.
     pub(crate) fn base(&self) -> u64 {
         self.base
     }
@@ -93,7 +93,7 @@ impl Lemmas {
         None
     }
 
-    /// Returns the line of the lemma of this rank, without its LF.
+    /// Reads the line of the lemma of this rank from the text, without its LF.
     pub(crate) fn line(
         &self,
         alloc: Global,

@@ -5,6 +5,7 @@ mod hints;
 mod lemma_count;
 mod lemmas;
 mod line_heads;
+mod line_reader;
 mod needs;
 mod recheck;
 mod report;

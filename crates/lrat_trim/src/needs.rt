@@ -2,7 +2,8 @@
 
 use crate::hints::plain_hints;
 use crate::lemmas::Lemmas;
-use lrat_text::{Groups, StepBuffer, StepRef, TextFault, read_line};
+use crate::line_reader::read;
+use lrat_text::{Groups, StepBuffer, StepRef, TextFault};
 use packed_text::PackedText;
 use std::alloc::{AllocError, Global};
 
@@ -55,28 +56,30 @@ struct BackwardPass<'k> {
 }
 
 impl<'k> BackwardPass<'k> {
-    /// Notes the lemma of this rank as needed, with its line as it is.
+    /// Notes the lemma of this rank as needed, with its line as it is; one that is noted already
+    /// keeps its form.
     fn need_rank(&mut self, rank: usize) {
         if rank < self.needs.len() && self.needs[rank] == Need::Nothing {
             self.needs[rank] = Need::Line;
         }
     }
 
-    /// Notes the lemma of this rank as needed, with groups.
+    /// Notes that the lemma of this rank, a needed one, has RAT groups, of which some may have to
+    /// be dropped.
     fn note_groups(&mut self, rank: usize) {
         if rank < self.needs.len() {
             self.needs[rank] = Need::Groups;
         }
     }
 
-    /// Notes the clause of this number as needed, if it is a lemma.
+    /// Notes the clause of this number as needed; the formula's clauses need no note.
     fn need(&mut self, id: u64) {
         if let Some(rank) = self.before.lemmas.rank(id) {
             self.need_rank(rank);
         }
     }
 
-    /// Notes the clauses of these numbers as needed.
+    /// Notes the clauses of these numbers as needed, the hints of a needed lemma.
     fn need_all(&mut self, ids: &[u64]) {
         for id in ids {
             self.need(*id);
@@ -98,7 +101,8 @@ impl<'k> BackwardPass<'k> {
         }
     }
 
-    /// Notes the hints of those groups as needed whose candidates are kept in `before`.
+    /// Notes the hints of a lemma's RAT groups as needed, except in groups whose candidates are not
+    /// kept: such groups are dropped.
     fn need_groups(&mut self, groups: &Groups) {
         for i in 0..groups.len() {
             let (candidate, hints) = groups.get(i);
@@ -108,7 +112,8 @@ impl<'k> BackwardPass<'k> {
         }
     }
 
-    /// Notes what the lemma of this rank needs, if the lemma is needed.
+    /// Takes the lemma of this rank on the way back: if it is needed, notes its hints as needed.
+    /// Hints without groups are read without parsing the line.
     fn step(
         &mut self,
         alloc: Global,
@@ -124,7 +129,7 @@ impl<'k> BackwardPass<'k> {
             self.need_spelled(hints);
             return Ok(());
         }
-        read_line(buffer, &line)?;
+        read(buffer, &line)?;
         if let StepRef::Add { hints, groups, .. } = buffer.as_ref() {
             self.need_all(hints);
             if !groups.is_empty() {
@@ -135,7 +140,8 @@ impl<'k> BackwardPass<'k> {
         Ok(())
     }
 
-    /// Goes back from the last lemma, which is needed, to the first.
+    /// Goes back from the last lemma, the empty clause, to the first. Hints come before the lemmas
+    /// that name them, so one pass finds all that is needed.
     fn run(
         &mut self,
         alloc: Global,
@@ -153,7 +159,8 @@ impl<'k> BackwardPass<'k> {
     }
 }
 
-/// Returns the needs of all lemmas in a pass back from the last one, if the candidates of groups are those that `before` keeps.
+/// Returns, by rank, what the empty clause needs, found in one pass back from it. Groups count only
+/// if `before` keeps their candidates.
 fn trace<'k>(
     alloc: Global,
     text: &PackedText,

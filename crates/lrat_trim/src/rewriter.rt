@@ -1,17 +1,19 @@
 //! Writes the kept lines of a proof as a shorter text.
 
 ghost use Rattle.std.specs.Prelude.{◌≡◌, All, OnOk};
-ghost use Rattle.lrat_text.specs.Grammar.{IsStep, IsClauseNumber, IsGroup};
+ghost use Rattle.lrat_text.specs.Grammar.{IsStepWithin, IsClauseNumber, IsGroup};
 ghost use Rattle.lrat_text.specs.Steps.{step_of};
 
 use crate::line_heads::{Head, head_of};
+use crate::line_reader::read;
 use crate::needs::{Kept, Need};
-use lrat_text::{Groups, StepBuffer, StepRef, TextFault, read_line};
+use lrat_text::{Groups, StepBuffer, StepRef, TextFault};
 use packed_text::{PackedLines, PackedText};
 use std::alloc::{AllocError, Global};
 use std::marker::Model;
 
-/// Returns the number `id` if a clause may have it, else `other`.
+/// Returns the number `id` if a clause may have it (1 to 2^48 - 1), else `other`: the number at the
+/// beginning of a deletion's line has to be one.
 fn clause_number(id: u64, other: u64) -> u64
     requires { IsClauseNumber other }
     ensures { IsClauseNumber result }
@@ -98,10 +100,10 @@ impl Rewriter {
         out
     }
 
-    /// Appends a step's line without the groups whose candidates, and without the deleted numbers whose clauses, are not kept. A deletion
-    /// of no clause is not written.
+    /// Appends a step's line, without the groups whose candidates are dropped and without the
+    /// deleted numbers whose clauses are. A deletion of no clause is not written.
     fn put(&mut self, kept: Kept<'_>, step: StepRef<'_>) -> Result<(), AllocError>
-        requires { IsStep (step_of step) }
+        requires { IsStepWithin 199999999 (step_of step) }
     {
         match step {
             StepRef::Add {
@@ -117,7 +119,7 @@ impl Rewriter {
                     hints,
                     groups: &self.groups,
                 };
-                self.out.put(line, id, &mut self.written)?;
+                self.out.put_within(line, id, &mut self.written)?;
                 self.top = id;
                 Ok(())
             }
@@ -127,24 +129,25 @@ impl Rewriter {
                     return Ok(());
                 }
                 let line = StepRef::Delete { ids: &self.numbers };
-                self.out.put(line, self.top, &mut self.written)
+                self.out.put_within(line, self.top, &mut self.written)
             }
         }
     }
 
-    /// Parses a line, and appends what of it is kept.
+    /// Parses a line, and appends what of it is kept: a deletion, or a lemma with groups. All other
+    /// lemmas are copied as text.
     fn put_part(
         &mut self,
         kept: Kept<'_>,
         buffer: &mut StepBuffer,
         line: &[u8],
     ) -> Result<(), TextFault> {
-        read_line(buffer, line)?;
+        read(buffer, line)?;
         self.put(kept, buffer.as_ref())?;
         Ok(())
     }
 
-    /// Appends a lemma's line as it is.
+    /// Appends the line of a needed lemma as it is.
     fn put_line(&mut self, id: u64, line: &[u8]) -> Result<(), AllocError> {
         self.written.clear();
         self.written.extend_from_slice(line)?;
@@ -155,7 +158,7 @@ impl Rewriter {
     }
 }
 
-/// Returns the kept lines of a proof, up to its empty clause, as a text.
+/// Copies the kept lines of a proof, up to its empty clause, to a new text.
 pub(crate) fn rewrite(
     alloc: Global,
     text: &PackedText,

@@ -7,7 +7,8 @@ use lrat_text::{StepBuffer, TextFault};
 use packed_text::PackedText;
 use std::alloc::{AllocError, Global};
 
-/// Finds the lemmas that are needed, and returns the proof without the others.
+/// Returns the proof without the lemmas that the empty clause does not need: lists the lemmas,
+/// traces the needs backwards, and copies the lines that stay.
 fn without_the_rest(alloc: Global, base: u64, proof: &PackedText) -> Result<PackedText, TextFault> {
     let lemmas = Lemmas::of(alloc, base, proof)?;
     let mut buffer = StepBuffer::new(alloc);

@@ -31,6 +31,7 @@ pub struct Trimmed {
 fn trim_accepted(alloc: Global, formula: Formula, proof: PackedText) -> Result<Trimmed, AllocError>
     ensures { IfOk result (λ t. Accepts formula proof → IsTrimmed formula proof t) }
 {
+    let _ = formula.vars(); // its contract says that the formula is within its limits
     let all = count_lemmas(alloc, &proof)?;
     if let Some(text) = shortened(alloc, formula.len() as u64, &proof)? {
         let kept = count_lemmas(alloc, &text)?;
@@ -148,6 +149,7 @@ pub fn trim(alloc: Global, formula: Formula, proof: &[u8]) -> Result<Trimmed, Ch
     ensures refused { IfErr result (λ fault. (fault ≡ no_memory) ⊎ (check_of formula proof.now ≡ Err fault)) }
 {
     proof_fault_is_exact();
+    let _ = formula.vars(); // its contract says that the formula is within its limits
     let mut trimming = Trimmer::new(alloc, formula)?;
     trimming.feed(proof)?;
     trimming.finish()

@@ -7,5 +7,5 @@ pub mod StartLemmas
 pub mod TruthLemmas
 pub mod DrawLemmas
 pub mod DrillLemmas
-pub mod KindLemmas
+pub mod VerdictKindLemmas
 pub mod TallyLemmas

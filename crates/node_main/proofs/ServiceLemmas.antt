@@ -1,6 +1,7 @@
 -- The report of a service: its parts, and the input that spells its formula.
 use Rattle.std.proofs.Common.{◌≡◌, ℕ, List, Option, Some, None, Result, Ok, Err, IfOk, inl, refl, subst}
 use Rattle.cube_split.specs.Pairs.{OpenedFormula}
+use Rattle.dimacs.specs.logic.Limits.{Limits}
 use Rattle.icnf.specs.Leaves.{Cube}
 use Rattle.lrat_check.specs.Soundness.{Soundness}
 use Rattle.event_loop.specs.declared.run.Run.{Run}
@@ -25,13 +26,13 @@ pub same_status : (r : Report) (run : Option Run) → (report_with r run).status
 same_status r None = refl
 same_status r (Some run) = refl
 
-pub serving_solves : {E : Type 0} (r : Result Service E) (input : List ℕ) (cubes : Option (List ℕ)) (o : Options) (s : Start) (opened : OpenedFormula) (leaves : List Cube)
-    → s ≡ With opened leaves → Starts input cubes o s → IfOk r (λ x. Decides opened.formula o (report_of x)) → IfOk r (λ x. Solves input cubes o (report_of x))
-serving_solves (Ok x) input cubes o s opened leaves same starts is =
-    let h : Starts input cubes o (With opened leaves) = subst (Starts input cubes o) same starts in inl (opened.formula, h.0, By leaves, h.1, is)
-serving_solves (Err e) input cubes o s opened leaves same starts is = tt
+pub serving_solves : {E : Type 0} (r : Result Service E) (L : Limits) (input : List ℕ) (cubes : Option (List ℕ)) (o : Options) (s : Start) (opened : OpenedFormula) (leaves : List Cube)
+    → s ≡ With opened leaves → Starts L input cubes o s → IfOk r (λ x. Decides opened.formula o (report_of x)) → IfOk r (λ x. Solves L input cubes o (report_of x))
+serving_solves (Ok x) L input cubes o s opened leaves same starts is =
+    let h : Starts L input cubes o (With opened leaves) = subst (Starts L input cubes o) same starts in inl (opened.formula, h.0, By leaves, h.1, is)
+serving_solves (Err e) L input cubes o s opened leaves same starts is = tt
 
-pub serving_true : {E : Type 0} → Soundness → (input : List ℕ) (cubes : Option (List ℕ)) (o : Options) (r : Result Service E)
-    → IfOk r (λ x. Solves input cubes o (report_of x)) → IfOk r (λ x. IsTrueReport input (report_of x))
-serving_true sound input cubes o (Ok x) is = solves_true {E = ℕ} sound input cubes o (Ok (report_of x)) is
-serving_true sound input cubes o (Err e) is = tt
+pub serving_true : {E : Type 0} → Soundness → (L : Limits) (input : List ℕ) (cubes : Option (List ℕ)) (o : Options) (r : Result Service E)
+    → IfOk r (λ x. Solves L input cubes o (report_of x)) → IfOk r (λ x. IsTrueReport L input (report_of x))
+serving_true sound L input cubes o (Ok x) is = solves_true {E = ℕ} sound L input cubes o (Ok (report_of x)) is
+serving_true sound L input cubes o (Err e) is = tt

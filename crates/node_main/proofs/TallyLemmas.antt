@@ -6,12 +6,12 @@ use Rattle.lrat_check.specs.declared.verdict.Verdict.{Verdict}
 use Rattle.honest_cluster.specs.ClosedSchedule.{ClosedState}
 use Rattle.node_main.specs.DrillSchedule.{DrillState, Counts, Drills, HasHeld, Holds, IsRefusedReaction, Occurs, TakesTurn, begun, drawn_event, next_after}
 use Rattle.node_main.specs.DrillReports.{IsCalm, ReportsDrill, drill_status, drill_text}
-use Rattle.node_main.specs.inner.Kinds.{AreKinds, are_at_odds, joined}
+use Rattle.node_main.specs.inner.VerdictKinds.{AreKinds, are_at_odds, joined}
 use Rattle.node_main.specs.inner.Tallies.{IsTally, counted}
-use Rattle.node_main.specs.declared.commands.drill.kinds.Kinds.{Kinds}
+use Rattle.node_main.specs.declared.commands.drill.verdict_kinds.Kinds.{Kinds}
 use Rattle.node_main.specs.declared.commands.drill.tally.Tally.{Tally}
 use Rattle.reports.specs.declared.report.Report.{Report}
-use Rattle.node_main.proofs.KindLemmas.{both_kinds, odds_are, same_kinds}
+use Rattle.node_main.proofs.VerdictKindLemmas.{both_kinds, odds_are, same_kinds}
 
 -- what is counted by a flag that tells of it
 counts : (old new kept : ℕ) (flag : Bool) (P : Type 0) → MatchBool flag P (¬ P) → kept ≡ old → new ≡ counted kept flag → Counts P old new

@@ -2,7 +2,8 @@
 use Rattle.std.proofs.Common.{◌≡◌, ◌⊎◌, ℕ, ◌<◌, arith, List, Option, Some, None, Result, Ok, Err, IfOk, inl, inr, sym, ◌∙◌}
 use Rattle.std.specs.Prelude.{IsSome, IfSome}
 use Rattle.dimacs.specs.logic.Cnf.{Cnf, assignment_of}
-use Rattle.dimacs.specs.text.Grammar.{Spells}
+use Rattle.dimacs.specs.logic.Limits.{Limits}
+use Rattle.dimacs.specs.text.Grammar.{SpellsWithin}
 use Rattle.lrat_text.specs.Proof.{Accepts}
 use Rattle.lrat_check.specs.Soundness.{Soundness, IsUnsatisfiable}
 use Rattle.node_main.specs.inner.Checks.{IsTextReport}
@@ -24,39 +25,39 @@ apart e (inl l) = omega (arith, e, l)
 apart e (inr l) = omega (arith, e, l)
 
 -- a report of another status says nothing
-other_true : (input : List ℕ) (r : Report) (status : ℕ) → r.status ≡ status → status < 10 → IsTrueReport input r
-other_true input r status is low =
+other_true : (L : Limits) (input : List ℕ) (r : Report) (status : ℕ) → r.status ≡ status → status < 10 → IsTrueReport L input r
+other_true L input r status is low =
     record { satisfiable = λ e. absurd (apart (sym is ∙ e) (inl (omega (arith, low)))); unsatisfiable = λ e. absurd (apart (sym is ∙ e) (inl (omega (arith, low)))) }
 
-refused_true : (input line : List ℕ) (o : Options) (r : Report) → IsRefused line o r → IsTrueReport input r
-refused_true input line o r is = other_true input r 1 is.status (omega arith)
+refused_true : (L : Limits) (input line : List ℕ) (o : Options) (r : Report) → IsRefused line o r → IsTrueReport L input r
+refused_true L input line o r is = other_true L input r 1 is.status (omega arith)
 
-pub decides_true : Soundness → (input : List ℕ) (F : Cnf) → Spells input F → (o : Options) (r : Report) → Decides F o r → IsTrueReport input r
-decides_true sound input F spells o r (inl is) =
+pub decides_true : Soundness → (L : Limits) (input : List ℕ) (F : Cnf) → SpellsWithin L input F → (o : Options) (r : Report) → Decides F o r → IsTrueReport L input r
+decides_true sound L input F spells o r (inl is) =
     record { satisfiable = λ e. (F, spells, assignment_of is.values, is.satisfies); unsatisfiable = λ e. absurd (apart (sym is.status ∙ e) (inl (omega arith))) }
-decides_true sound input F spells o r (inr (inl is)) =
+decides_true sound L input F spells o r (inr (inl is)) =
     record { satisfiable = λ e. absurd (apart (sym is.status ∙ e) (inr (omega arith))); unsatisfiable = λ e. (F, spells, refuted sound F r.proof is.there is.accepted) }
-decides_true sound input F spells o r (inr (inr is)) = other_true input r 0 is.status (omega arith)
+decides_true sound L input F spells o r (inr (inr is)) = other_true L input r 0 is.status (omega arith)
 
-answers_true : Soundness → (input : List ℕ) (F : Cnf) → Spells input F → (o : Options) (r : Report) (split : Split) → Answers F o r split → IsTrueReport input r
-answers_true sound input F spells o r (By leaves) is = decides_true sound input F spells o r is
-answers_true sound input F spells o r (Faulty fault) is = refused_true input _ o r is
-answers_true sound input F spells o r OtherFormula is = refused_true input _ o r is
+answers_true : Soundness → (L : Limits) (input : List ℕ) (F : Cnf) → SpellsWithin L input F → (o : Options) (r : Report) (split : Split) → Answers F o r split → IsTrueReport L input r
+answers_true sound L input F spells o r (By leaves) is = decides_true sound L input F spells o r is
+answers_true sound L input F spells o r (Faulty fault) is = refused_true L input _ o r is
+answers_true sound L input F spells o r OtherFormula is = refused_true L input _ o r is
 
 -- what is reported of an input is true
-pub solves_true : {E : Type 0} → Soundness → (input : List ℕ) (cubes : Option (List ℕ)) (o : Options) (r : Result Report E)
-    → IfOk r (Solves input cubes o) → IfOk r (IsTrueReport input)
-solves_true sound input cubes o (Ok r) (inl (F, spells, split, splits, is)) = answers_true sound input F spells o r split is
-solves_true sound input cubes o (Ok r) (inr (f, parsed, is)) = refused_true input _ o r is
-solves_true sound input cubes o (Err fault) is = tt
+pub solves_true : {E : Type 0} → Soundness → (L : Limits) (input : List ℕ) (cubes : Option (List ℕ)) (o : Options) (r : Result Report E)
+    → IfOk r (Solves L input cubes o) → IfOk r (IsTrueReport L input)
+solves_true sound L input cubes o (Ok r) (inl (F, spells, split, splits, is)) = answers_true sound L input F spells o r split is
+solves_true sound L input cubes o (Ok r) (inr (f, parsed, is)) = refused_true L input _ o r is
+solves_true sound L input cubes o (Err fault) is = tt
 
-pub works_true : {E : Type 0} → Soundness → (input : List ℕ) (o : Options) (r : Result Report E) → IfOk r (Works input o) → IfOk r (IsTrueReport input)
-works_true sound input o (Ok r) (inl (F, spells, is)) = decides_true sound input F spells o r is
-works_true sound input o (Ok r) (inr (f, parsed, is)) = refused_true input _ o r is
-works_true sound input o (Err fault) is = tt
+pub works_true : {E : Type 0} → Soundness → (L : Limits) (input : List ℕ) (o : Options) (r : Result Report E) → IfOk r (Works L input o) → IfOk r (IsTrueReport L input)
+works_true sound L input o (Ok r) (inl (F, spells, is)) = decides_true sound L input F spells o r is
+works_true sound L input o (Ok r) (inr (f, parsed, is)) = refused_true L input _ o r is
+works_true sound L input o (Err fault) is = tt
 
 -- what is verified is unsatisfiable
-pub verified_true : {E : Type 0} → Soundness → (input proof : List ℕ) (r : Result Report E)
-    → IfOk r (IsTextReport input proof) → IfOk r (λ (x : Report). (x.status ≡ 0) → SpellsUnsatisfiable input)
-verified_true sound input proof (Ok x) is = λ zero. let h = is.verified.0 zero in (h.0, h.1, sound h.0 proof h.2)
-verified_true sound input proof (Err fault) is = tt
+pub verified_true : {E : Type 0} → Soundness → (L : Limits) (input proof : List ℕ) (r : Result Report E)
+    → IfOk r (IsTextReport L input proof) → IfOk r (λ (x : Report). (x.status ≡ 0) → SpellsUnsatisfiable L input)
+verified_true sound L input proof (Ok x) is = λ zero. let h = is.verified.0 zero in (h.0, h.1, sound h.0 proof h.2)
+verified_true sound L input proof (Err fault) is = tt

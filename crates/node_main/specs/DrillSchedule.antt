@@ -16,8 +16,10 @@ delivery b node frames = if frames == 0 then None else Some (Deliver node (b % f
 abbrev pub renewal : ℕ → ℕ → ℕ → Option ClosedEvent
 renewal b node next = if b % 16 == 0 then Some (Restart node next) else None
 
--- `event_of kind b node frames next`: the event of a kind from 0 to 15: six kinds deliver, three let the node work, six poll it for a frame
--- (the coordinator for one to worker 1, 2 or 3), and the last one may restart it
+-- `event_of kind b node frames next`: the event of a kind from 0 to 15. Of the kinds, six deliver
+-- one of the `frames` sent so far, three let the node work, six poll it for a frame (the
+-- coordinator for one to worker 1, 2 or 3), and the last one may restart it under the number
+-- `next`; `b` is the random number by which a kind chooses.
 abbrev pub event_of : ℕ → ℕ → ℕ → ℕ → ℕ → Option ClosedEvent
 event_of kind b node frames next =
     if nat_lt kind 6 then delivery b node frames

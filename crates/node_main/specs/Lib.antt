@@ -5,6 +5,7 @@ pub mod DrillReports
 pub mod DrillSchedule
 pub mod Forms
 pub mod ProofChecks
+pub mod ReadLimits
 pub mod Reports
 pub mod RunCalls
 pub mod ServiceReports

@@ -1,9 +1,10 @@
 -- A check of a proof that comes in pieces, in the form that its first byte tells.
 use Rattle.std.specs.Prelude.{◌≡◌, ◌↔◌, ◌⊎◌, ℕ, Bool, true, false, List, [], Result, Ok, Err, None}
 use Rattle.dimacs.specs.logic.Cnf.{Cnf}
-use Rattle.dimacs.specs.text.Parser.{parse, no_memory}
+use Rattle.dimacs.specs.logic.Limits.{Limits}
+use Rattle.dimacs.specs.text.Parser.{no_memory, parse_within}
 use Rattle.dimacs.specs.text.Rows.{Fails}
-use Rattle.dimacs.specs.text.Grammar.{Spells}
+use Rattle.dimacs.specs.text.Grammar.{SpellsWithin}
 use Rattle.dimacs.specs.declared.fault.DimacsFault.{DimacsFault}
 use Rattle.lrat_text.specs.Proof.{Accepts}
 use Rattle.lrat_check.specs.Stream as text
@@ -22,11 +23,11 @@ Reaches F (Awaiting G) proof = (G ≡ F) × (proof ≡ [])
 Reaches F (Text p) proof = HasForm false proof × text.HasTaken F p proof
 Reaches F (Binary p) proof = HasForm true proof × binary.HasTaken F p proof
 
--- `HasTaken input state proof`: the state is that of a check against this input that has taken these bytes of the proof. It holds how far
--- the proof was checked, or why there is no check: the input's fault, or want of memory.
-abbrev pub HasTaken : List ℕ → Result Stage DimacsFault → List ℕ → Type 0
-HasTaken input (Ok stage) proof = (F : Cnf) × (parse input ≡ Ok F) × Reaches F stage proof
-HasTaken input (Err fault) proof = Fails no_memory fault (parse input)
+-- `HasTaken L input state proof`: the state is that of a check against this input, read within L, that has taken these bytes of the proof.
+-- It holds how far the proof was checked, or why there is no check: the input's fault, or want of memory.
+abbrev pub HasTaken : Limits → List ℕ → Result Stage DimacsFault → List ℕ → Type 0
+HasTaken L input (Ok stage) proof = (F : Cnf) × SpellsWithin L input F × Reaches F stage proof
+HasTaken L input (Err fault) proof = Fails no_memory fault (parse_within L input)
 
 -- the check of this stage has met a fault, of the proof or of memory
 abbrev pub has_met : Stage → Bool
@@ -54,12 +55,12 @@ KeepsNoLine (Err fault) = Unit {0}
 abbrev pub IsProofOf : Cnf → List ℕ → Type 0
 IsProofOf F proof = Accepts F proof ⊎ AcceptsBinary F proof
 
--- the report of `check` for an input and a proof in either form
-pub record IsCheckReport (input proof : List ℕ) (report : Report) : Type 0 where
+-- the report of `check` for an input within L and a proof in either form
+pub record IsCheckReport (L : Limits) (input proof : List ℕ) (report : Report) : Type 0 where
   -- status 0 if and only if the input spells a formula and the proof is accepted against it
-  pub verified : (report.status ≡ 0) ↔ ((F : Cnf) × Spells input F × IsProofOf F proof)
+  pub verified : (report.status ≡ 0) ↔ ((F : Cnf) × SpellsWithin L input F × IsProofOf F proof)
   pub status : (report.status ≡ 0) ⊎ (report.status ≡ 1)
   -- which lines are printed, and so which fault, in which line or step
-  pub text : report.stdout.items ≡ proof_text (parse input) proof
+  pub text : report.stdout.items ≡ proof_text (parse_within L input) proof
   -- no proof is handed out
   pub no_proof : report.proof ≡ None

@@ -1,8 +1,9 @@
 -- The report of `solve`, `serve` or `work` for an input: of the formula that it spells, or that it is refused.
 use Rattle.std.specs.Prelude.{◌≡◌, ℕ, ◌⊎◌, List, [], Option, Err, None, if◌then◌else◌}
 use Rattle.dimacs.specs.logic.Cnf.{Cnf}
-use Rattle.dimacs.specs.text.Parser.{parse}
-use Rattle.dimacs.specs.text.Grammar.{Spells}
+use Rattle.dimacs.specs.logic.Limits.{Limits}
+use Rattle.dimacs.specs.text.Parser.{parse_within}
+use Rattle.dimacs.specs.text.Grammar.{SpellsWithin}
 use Rattle.dimacs.specs.declared.fault.DimacsFault.{DimacsFault}
 use Rattle.node_main.specs.Decisions.{Decides}
 use Rattle.reports.specs.Faults.{input_fault_text, cubes_fault_text, other_formula_text}
@@ -18,9 +19,9 @@ pub record IsRefused (line : List ℕ) (options : Options) (r : Report) : Type 0
   pub text : r.stdout.items ≡ (if options.quiet then [] else line)
   pub proof : r.proof ≡ None
 
--- `IsFaulty input options report`: the input spells no formula, and the report has its fault
-abbrev pub IsFaulty : List ℕ → Options → Report → Type 0
-IsFaulty input options r = (f : DimacsFault) × (parse input ≡ Err f) × IsRefused (input_fault_text f) options r
+-- `IsFaulty L input options report`: the input spells no formula within L, and the report has its fault
+abbrev pub IsFaulty : Limits → List ℕ → Options → Report → Type 0
+IsFaulty L input options r = (f : DimacsFault) × (parse_within L input ≡ Err f) × IsRefused (input_fault_text f) options r
 
 -- `Answers F options report split`: the report of a formula that is split, or of its cubes if they are refused. It does not say which
 -- leaves were used, since links may lie.
@@ -29,12 +30,12 @@ Answers F options r (By leaves) = Decides F options r
 Answers F options r (Faulty fault) = IsRefused (cubes_fault_text fault) options r
 Answers F options r OtherFormula = IsRefused other_formula_text options r
 
--- `Solves input cubes options report`: the report of a coordinator for an input and the cubes that are handed in with it, if any
-abbrev pub Solves : List ℕ → Option (List ℕ) → Options → Report → Type 0
-Solves input cubes options r =
-    ((F : Cnf) × Spells input F × (split : Split) × Splits F cubes options.depth options.defs split × Answers F options r split)
-    ⊎ IsFaulty input options r
+-- `Solves L input cubes options report`: the report of a coordinator for an input within L and the cubes that are handed in with it, if any
+abbrev pub Solves : Limits → List ℕ → Option (List ℕ) → Options → Report → Type 0
+Solves L input cubes options r =
+    ((F : Cnf) × SpellsWithin L input F × (split : Split) × Splits L F cubes options.depth options.defs split × Answers F options r split)
+    ⊎ IsFaulty L input options r
 
--- `Works input options report`: the report of a worker, which splits nothing, for an input
-abbrev pub Works : List ℕ → Options → Report → Type 0
-Works input options r = ((F : Cnf) × Spells input F × Decides F options r) ⊎ IsFaulty input options r
+-- `Works L input options report`: the report of a worker, which splits nothing, for an input within L
+abbrev pub Works : Limits → List ℕ → Options → Report → Type 0
+Works L input options r = ((F : Cnf) × SpellsWithin L input F × Decides F options r) ⊎ IsFaulty L input options r

@@ -1,4 +1,4 @@
-//! The parser that a table of rules describes.
+//! The builder of `clap`'s parser from a table of rules.
 
 ghost use Rattle.std.specs.Prelude.{◌≡◌, IfOk, false};
 ghost use Rattle.clap.specs.Words.{app_of, rule_of, with_rule, with_subcommand};
@@ -9,7 +9,8 @@ use clap::builder::ValueParser;
 use clap::{Arg, ArgAction, Command};
 use std::alloc::{AllocError, Global};
 
-/// The argument of a number, except its help.
+/// Makes `clap`'s argument of an option `--name N`, a number from `low` to `high`, without its help
+/// text.
 fn number<'a>(alloc: Global, name: &'a str, low: u64, high: u64, need: Need<'a>) -> Arg<'a>
     ensures rule { rule_of result ≡ rule_of_number name.entry.now low high need.entry }
     ensures global { result.global ≡ false }
@@ -25,7 +26,7 @@ fn number<'a>(alloc: Global, name: &'a str, low: u64, high: u64, need: Need<'a>)
     }
 }
 
-/// The argument of a word, except its help.
+/// Makes `clap`'s argument of a word of the table, without its help text.
 fn bare<'a>(alloc: Global, word: Word<'a>) -> Arg<'a>
     ensures rule { rule_of result ≡ rule_of_word word.entry }
     ensures global { result.global ≡ false }
@@ -67,7 +68,7 @@ fn help_of<'a>(word: Word<'a>) -> &'a str {
     }
 }
 
-/// A command with one more word.
+/// Adds the argument of one more word to a command.
 fn with_word<'a>(
     alloc: Global,
     command: Command<'a>,
@@ -78,7 +79,7 @@ fn with_word<'a>(
     command.arg(bare(alloc, word).help(help_of(word)))
 }
 
-/// A command by its rules.
+/// Makes `clap`'s command of the rules of a command.
 fn command_of<'a>(alloc: Global, rules: &CommandRules<'a>) -> Result<Command<'a>, AllocError>
     ensures { IfOk result (λ c. app_of c ≡ app_of_command rules.now) }
 {
@@ -91,7 +92,7 @@ fn command_of<'a>(alloc: Global, rules: &CommandRules<'a>) -> Result<Command<'a>
     Ok(command)
 }
 
-/// A program with one more command.
+/// Adds one more command to a program.
 fn with_command<'a>(
     alloc: Global,
     program: Command<'a>,
@@ -103,7 +104,7 @@ fn with_command<'a>(
     program.subcommand(command)
 }
 
-/// A program by its rules.
+/// Makes `clap`'s command of the whole program, with a subcommand for each of its commands.
 pub(crate) fn program_of<'a, 'r>(
     alloc: Global,
     rules: &ProgramRules<'a, 'r>,

@@ -1,4 +1,4 @@
-//! What a parse found.
+//! What a parse found: a command, and the values of its arguments.
 
 ghost use Rattle.std.specs.Prelude.{◌≡◌, Some, None, codes, false, map, option_map, true};
 ghost use Rattle.clap.specs.Words.{all_of, first_of, one_of, subcommand_rows_of};
@@ -7,7 +7,7 @@ ghost use Rattle.option_table.specs.Found.{met_of};
 use clap::ArgMatches;
 use std::marker::Model;
 
-/// The result of a parse: the command, and the values of its arguments.
+/// What a parse found: the command, and the values of its arguments.
 pub struct Found<'a> {
     matches: ArgMatches<'a>,
 }
@@ -29,14 +29,14 @@ impl<'a> Drop for Found<'a> {
 }
 
 impl<'a> Found<'a> {
-    /// What a parse by `clap` found.
+    /// Wraps what `clap` has found, so that no caller names a type of `clap`.
     pub(crate) fn new(matches: ArgMatches<'a>) -> Found<'a>
         ensures { result ≡ met_of (subcommand_rows_of matches.entry) }
     {
         Found { matches }
     }
 
-    /// The name of the command.
+    /// The name of the command that was named.
     pub fn name(&self) -> &str
         ensures { result.now ≡ self.now.name }
     {
@@ -46,7 +46,7 @@ impl<'a> Found<'a> {
         }
     }
 
-    /// The first value of an argument of the command.
+    /// The first value that was given to an argument of the command; None if it has none.
     pub fn text(&self, name: &str) -> Option<&'a str>
         ensures { first_of name.now self.now.rows ≡ option_map (λ t. t.now) result }
     {
@@ -56,7 +56,7 @@ impl<'a> Found<'a> {
         }
     }
 
-    /// All values of an argument of the command, in order.
+    /// All values of an argument of the command, in order; None if it has none.
     pub fn texts(&self, name: &str) -> Option<&[&'a str]>
         ensures { all_of name.now self.now.rows ≡ option_map (λ s. map (λ t. t.now) s.now) result }
     {
@@ -66,7 +66,7 @@ impl<'a> Found<'a> {
         }
     }
 
-    /// Whether a flag is given.
+    /// Whether a flag of the command is given.
     pub fn flag(&self, name: &str) -> bool
         ensures yes { one_of name.now self.now.rows ≡ Some (codes "true") → result ≡ true }
         ensures no { one_of name.now self.now.rows ≡ Some (codes "false") → result ≡ false }

@@ -1,7 +1,7 @@
 //! Words of a command line by a table of rules, read by `clap`.
 //!
-//! What a layer above may rest on: `parse` takes exactly the words that the rules take, memory aside, and what it found is what a
-//! parse by these rules makes of them. No layer above names a type of `clap`.
+//! What a layer above may rest on: `parse` takes exactly the words that the rules take, unless memory is refused, and what it finds is what
+//! a parse by these rules finds. No layer above names a type of `clap`.
 #![tactic(auto)]
 
 mod builder;

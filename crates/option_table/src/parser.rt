@@ -1,4 +1,4 @@
-//! Reads words by the rules of a program.
+//! The parser of words, by the rules of a program.
 
 ghost use Rattle.std.specs.Prelude.{◌≡◌, List, [], IfErr, IfOk, Some, map, true};
 ghost use Rattle.clap.specs.Words.{Row, Text, app_of, fault_of, is_simple_and_free, kind_of, subcommand_of, subcommand_rows_of, takes};
@@ -20,7 +20,7 @@ pub enum Refusal {
     Help(String),
     /// The rules do not take the words.
     Refused,
-    /// A growth was refused.
+    /// Memory was refused.
     NoMemory,
 }
 
@@ -34,7 +34,7 @@ impl From<AllocError> for Refusal {
     }
 }
 
-/// Why an error of the parser refuses the words.
+/// The refusal of an error of `clap`: help or version as a text to print, refused memory, or refused words.
 fn refusal_of(alloc: Global, error: &Error) -> Refusal
     ensures { StandsFor (kind_of error.now) result }
 {
@@ -48,7 +48,8 @@ fn refusal_of(alloc: Global, error: &Error) -> Refusal
     }
 }
 
-/// What the words give to a command of the program; the first word is the program's name.
+/// Parses the words by the rules of a program; the first word is the program's name. Returns the command and its arguments, or why the
+/// words are refused.
 pub fn parse<'a, 'r>(
     alloc: Global,
     program: &ProgramRules<'a, 'r>,
@@ -57,7 +58,7 @@ pub fn parse<'a, 'r>(
     requires { is_simple_and_free (app_of_program program.now) ≡ true }
     ensures met { IfOk result (λ found. subcommand_of (app_of_program program.now) (map (λ w. w.now) words.now) ≡ Some (found.name, found.rows)) }
     ensures taken { IfOk result (λ _. fault_of (app_of_program program.now) (map (λ w. w.now) words.now) ≡ []) }
-    // Words that the rules take, and that name a command, are refused for want of memory alone.
+    // Words that the rules take, and that name a command, are refused only if memory is.
     ensures complete { (met : Text × List Row) → takes (app_of_program program.now) (map (λ w. w.now) words.now) ≡ true
         → subcommand_of (app_of_program program.now) (map (λ w. w.now) words.now) ≡ Some met → IfErr result (λ f. f ≡ Refusal.NoMemory) }
     ensures refused { IfErr result (IsRefusalOf (app_of_program program.now) (map (λ w. w.now) words.now)) }

@@ -1,20 +1,20 @@
 //! Tables of rules: a program, its commands, and the words of each.
 
-/// Whether a number has to be named, and what stands for it if it is left out.
+/// Whether a number has to be named, and its value if it is left out.
 #[derive(Clone, Copy)]
 pub enum Need<'a> {
-    /// It has to be named.
+    /// The number has to be named.
     Required,
-    /// It may be left out.
+    /// The number may be left out.
     Optional,
-    /// It may be left out; then it is this.
+    /// The number may be left out; then it is this one.
     Usual(&'a str),
 }
 
-/// A word after a command's name, and what help says of it.
+/// A word after a command's name, and its line in help.
 #[derive(Clone, Copy)]
 pub enum Word<'a> {
-    /// `FILE`, by its place.
+    /// `FILE`, by its position.
     File {
         name: &'a str,
         required: bool,
@@ -52,22 +52,28 @@ pub enum Word<'a> {
     },
 }
 
-/// A command: its name, what help says of it before and after its words, and these.
+/// A command: its name, what help says before and after its words, and these words.
 #[derive(Clone, Copy)]
 pub struct CommandRules<'a> {
+    /// The name of the command.
     pub name: &'a str,
+    /// What help says before the words.
     pub about: &'a str,
+    /// What help says after the words.
     pub after_help: &'a str,
+    /// The words of the command.
     pub words: &'a [Word<'a>],
 }
 
-/// A program, of which one of its commands has to be named. Its version is what `--version` says after its name. What is found keeps texts
-/// of its rules, and not the table of its commands.
+/// A program, of which one command has to be named. Its version is what `--version` prints after its name. What a parse finds borrows the
+/// texts of the rules, and not the list of the commands.
 #[derive(Clone, Copy)]
 pub struct ProgramRules<'a, 'r> {
     pub name: &'a str,
+    /// What `--version` prints after the name.
     pub version: &'a str,
     pub about: &'a str,
     pub after_help: &'a str,
+    /// The commands, of which one has to be named.
     pub commands: &'r [CommandRules<'a>],
 }

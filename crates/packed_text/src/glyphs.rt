@@ -1,4 +1,5 @@
-//! Packing and unpacking: the fourteen characters of LRAT lines (digits, space, minus, `d`, LF), two in a byte.
+//! Packing and unpacking characters: the fourteen characters of LRAT lines (digits, space, minus, `d`, LF) have codes of four bits, two in
+//! a byte.
 
 ghost use Rattle.std.specs.Prelude.{◌≡◌, ◌+◌, ◌*◌, ◌<◌, ◌++◌, ◌∷◌, [], IsTrue, IsOk, ◌≤◌, length, max, vec_capacity, All, OnOk, map, flat_map};
 ghost use Rattle.packed_text.specs.Packed.{byte_text, half_text};
@@ -10,7 +11,7 @@ use std::alloc::AllocError;
 
 // Each function below is a sum of choices without a branch or a table, so that the compiler vectorises the loops over them.
 
-/// The value if both numbers are equal, else 0.
+/// Answers the value if both numbers are equal, otherwise 0.
 #[inline(always)]
 fn value_if(one: u8, other: u8, value: u8) -> u8
     ensures value { result ≡ value_if one other value }
@@ -19,7 +20,7 @@ fn value_if(one: u8, other: u8, value: u8) -> u8
     if one == other { value } else { 0 }
 }
 
-/// A digit's value, and 15 for every other byte.
+/// Answers a digit's value, and 15 for every other byte.
 #[inline(always)]
 fn digit_code(byte: u8) -> u8
     ensures { result ≡ digit_code byte }
@@ -31,7 +32,8 @@ fn digit_code(byte: u8) -> u8
     }
 }
 
-/// What is subtracted from 15 to get the code of a space (10), a minus (11), the letter d (12) or an LF (13); 0 for every other byte.
+/// Answers 15 minus the code of a space (10), a minus (11), the letter d (12) or an LF (13), and 0
+/// for every other byte. `code` subtracts it from the 15 that `digit_code` gives for these bytes.
 #[inline(always)]
 fn other_code(byte: u8) -> u8
     ensures { result ≡ other_code byte }
@@ -42,7 +44,9 @@ fn other_code(byte: u8) -> u8
         + value_if(byte, b'\n', 2)
 }
 
-/// The code of a character, from 0 to 13; 15 for a byte that is no character of lines.
+/// Answers the code of a character, from 0 to 13; 15 for a byte that is no character of lines. The
+/// difference needs no branch: one of the two is 0 for a digit, and `digit_code` is 15 for the
+/// rest.
 #[inline(always)]
 fn code(byte: u8) -> u8
     ensures half { result < 16 }
@@ -51,7 +55,7 @@ fn code(byte: u8) -> u8
     digit_code(byte) - other_code(byte)
 }
 
-/// The digit of a code below 10, and 0 for every other code.
+/// Answers the digit of a code below 10, and 0 for every other code.
 #[inline(always)]
 fn digit_glyph(half: u8) -> u8
     ensures value { result ≡ digit_glyph half }
@@ -60,7 +64,8 @@ fn digit_glyph(half: u8) -> u8
     if half < 10 { b'0' + half } else { 0 }
 }
 
-/// The space, the minus, the letter d or the LF of a code from 10 to 13, and 0 for every other code.
+/// Answers the space, the minus, the letter d or the LF of a code from 10 to 13, and 0 for every
+/// other code.
 #[inline(always)]
 fn other_glyph(half: u8) -> u8
     ensures value { result ≡ other_glyph half }
@@ -72,7 +77,7 @@ fn other_glyph(half: u8) -> u8
         + value_if(half, 13, b'\n')
 }
 
-/// The character of a code.
+/// Answers the character of a code from 0 to 13: a sum without a branch, of which one part is 0.
 #[inline(always)]
 fn glyph(half: u8) -> u8
     requires { half < 14 }
@@ -81,7 +86,7 @@ fn glyph(half: u8) -> u8
     digit_glyph(half) + other_glyph(half)
 }
 
-/// The greater of two numbers.
+/// Answers the greater of two numbers.
 #[inline(always)]
 fn greater(one: u8, other: u8) -> u8
     ensures { result ≡ max one other }
@@ -89,7 +94,8 @@ fn greater(one: u8, other: u8) -> u8
     if one < other { other } else { one }
 }
 
-/// Packs text, two characters in a byte. `false` if some byte is no character of lines; `pairs` then holds no text.
+/// Packs a text, two characters into each byte of `pairs`. Answers `false` if some byte is no character of lines; `pairs` then means
+/// nothing.
 pub(crate) fn pack(pairs: &mut [u8], text: &[u8]) -> bool
     requires { length text.now ≡ 2 * length pairs.old }
     ensures length { length pairs.new ≡ length pairs.old }
@@ -106,7 +112,7 @@ pub(crate) fn pack(pairs: &mut [u8], text: &[u8]) -> bool
     most < 14
 }
 
-/// Writes the two halves of each byte, the upper one first, each as a byte.
+/// Writes the two codes of each packed byte, the upper half first, each into a byte of `text`.
 fn write_halves(text: &mut [u8], pairs: &[u8])
     requires { length text.old ≡ 2 * length pairs.now }
     ensures { text.new ≡ flat_map halves pairs.now }
@@ -128,7 +134,7 @@ fn write_characters(text: &mut [u8])
     }
 }
 
-/// Writes the text of packed bytes.
+/// Writes the text of packed bytes into `text`.
 fn write_glyphs(text: &mut [u8], pairs: &[u8])
     requires pairs { All IsPair pairs.now }
     requires room { length text.old ≡ 2 * length pairs.now }
@@ -138,7 +144,7 @@ fn write_glyphs(text: &mut [u8], pairs: &[u8])
     write_characters(text);
 }
 
-/// Appends the text of packed bytes, of at most one block. It takes no memory if `out` has the capacity.
+/// Appends the text of at most one block of packed bytes. It allocates nothing if `out` has the capacity.
 pub(crate) fn unpack(out: &mut Vec<u8>, pairs: &[u8]) -> Result<(), AllocError>
     requires pairs { All IsPair pairs.now }
     requires few { length pairs.now ≤ 2048 }

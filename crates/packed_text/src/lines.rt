@@ -8,11 +8,11 @@ use lrat_text::cut_line;
 use std::alloc::{AllocError, Global};
 use std::marker::Model;
 
-/// How many characters are unpacked at once. The number is even, so that each block begins with a whole packed byte.
+/// The number of characters that are unpacked at once. It is even, so that each block begins with a whole packed byte.
 const BLOCK: usize = 4096;
 
-/// Appends to the line the bytes from a place up to the next LF, and moves the place past that LF. If there is no LF, it appends
-/// all that is left and answers `false`.
+/// Appends to the line the bytes of the block from offset `at` up to the next LF, and moves `at` past that LF. If there is no LF, it
+/// appends the rest of the block and answers `false`.
 fn take_part(block: &[u8], at: &mut usize, line: &mut Vec<u8>) -> Result<bool, AllocError>
     requires inside { at.old ≤ length block.now }
     requires open { IsOpen line.old.items }
@@ -36,16 +36,18 @@ fn take_part(block: &[u8], at: &mut usize, line: &mut Vec<u8>) -> Result<bool, A
     }
 }
 
-/// What is left of a packed text that is read line by line. Only one block of it is unpacked at a time.
+/// Reads a packed text line by line. Its value is the text that has not been read. Only one block is unpacked at a time.
 #[derive(Drop)]
 pub struct PackedLines<'t> {
+    /// The allocator for the block.
     alloc: Global,
+    /// The whole text.
     text: &'t PackedText,
-    /// How many characters of the text were unpacked so far.
+    /// The number of characters of the text that were unpacked so far.
     from: usize,
     /// The block that was unpacked last.
     block: Vec<u8>,
-    /// Where the next line begins in the block.
+    /// The offset in the block at which the next line begins.
     at: usize,
 }
 
@@ -60,7 +62,7 @@ impl<'t> Model for PackedLines<'t> {
 }
 
 impl<'t> PackedLines<'t> {
-    /// All of a text. It takes no memory.
+    /// A reader of the lines of a text of which no line has been read. It allocates nothing.
     pub fn of(alloc: Global, text: &'t PackedText) -> PackedLines<'t>
         ensures { result ≡ text.now }
     {
@@ -73,9 +75,10 @@ impl<'t> PackedLines<'t> {
         }
     }
 
-    /// Replaces `line` by the next line, without its LF. If no LF is left, it answers `false`, and `line` is the rest of the text.
+    /// Replaces `line` by the next line, without its LF. If no LF is left, it answers `false`, and `line` is the rest of the text. After an
+    /// `Err` the reader is of no use.
     ///
-    /// Each character is unpacked once and searched once for an LF. Memory is taken for one block and for the line.
+    /// Each character is unpacked once and searched once for an LF. Memory is allocated for one block and for the line.
     pub fn next(&mut self, line: &mut Vec<u8>) -> Result<bool, AllocError>
         ensures { IfOk result (λ some. MatchBool some (IsCut self.old line.new.items self.new) (IsOpen self.old × (line.new.items ≡ self.old))) }
     {

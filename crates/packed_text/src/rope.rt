@@ -1,4 +1,4 @@
-//! Bytes in blocks of a fixed length, which several ropes may share.
+//! Ropes: lists of bytes in blocks of a fixed length, which several ropes may share.
 
 ghost use Rattle.std.specs.Prelude.{◌≡◌, ◌+◌, ◌*◌, ◌%◌, ◌^◌, ◌<◌, ◌≤◌, [], ◌++◌, MatchBool, IsTrue, length, take, drop, IfOk};
 
@@ -9,12 +9,13 @@ use std::rc::Rc;
 /// The length of a block in bytes.
 pub(crate) const BLOCK: usize = 2048;
 
-/// The greatest number of blocks. It keeps the number of bytes, and of the characters packed in them, below the limit of a `usize`.
+/// The greatest number of blocks. It keeps the number of bytes, and of the characters packed in them, within a `usize`.
 const MOST: usize = 1 << 48;
 
-/// A list of bytes in blocks. It grows without copying earlier blocks, and a block may belong to other ropes too.
+/// A list of bytes in blocks. It grows without copying earlier blocks, and several ropes may share a block.
 #[derive(Drop)]
 pub(crate) struct Rope {
+    /// The blocks, each of 2,048 bytes.
     blocks: Vec<Rc<Vec<u8>>>,
 }
 
@@ -28,7 +29,8 @@ impl Model for Rope {
     ghost invariant = { λ r. All (λ b. length b.value.items ≡ 2048) r.blocks.items × (length r.blocks.items ≤ 2 ^ 48) };
 }
 
-/// The block to store: another rope's block if that has the same bytes, so that they are in memory once; else a copy.
+/// Answers the block to store: `like`, the block of another rope at the same index, if it has the
+/// same bytes, so that both ropes share one copy in memory; otherwise a copy of its own.
 fn held(alloc: Global, block: &[u8], like: Option<&Rc<Vec<u8>>>) -> Result<Rc<Vec<u8>>, AllocError>
     ensures { IfOk result (λ rc. rc.value.items ≡ block.now) }
 {
@@ -40,7 +42,7 @@ fn held(alloc: Global, block: &[u8], like: Option<&Rc<Vec<u8>>>) -> Result<Rc<Ve
     Ok(Rc::new(alloc, Vec::from_slice(alloc, block)?)?)
 }
 
-/// Whether both are the same bytes. `false` promises nothing.
+/// Answers whether two blocks have the same bytes. The contract promises nothing of `false`.
 fn is_same(one: &[u8], other: &[u8]) -> bool
     ensures { IsTrue result → one.now ≡ other.now }
 {
@@ -48,7 +50,7 @@ fn is_same(one: &[u8], other: &[u8]) -> bool
 }
 
 impl Rope {
-    /// The empty rope. It takes no memory.
+    /// An empty rope. It allocates nothing.
     pub(crate) fn new(alloc: Global) -> Rope
         ensures { result ≡ [] }
     {
@@ -57,7 +59,7 @@ impl Rope {
         }
     }
 
-    /// How many bytes there are.
+    /// Answers the number of bytes.
     pub(crate) fn len(&self) -> usize
         ensures len { result ≡ length self.now }
         ensures blocks { result % 2048 ≡ 0 }
@@ -66,7 +68,7 @@ impl Rope {
         BLOCK * self.blocks.len()
     }
 
-    /// The bytes from a place on, up to the end of that place's block.
+    /// Lends the bytes from offset `from` on, up to the end of the block that contains `from`.
     pub(crate) fn part(&self, from: usize) -> &[u8]
         requires { from < length self.now }
         ensures part { result.now ≡ take (length result.now) (drop from self.now) }
@@ -79,8 +81,8 @@ impl Rope {
         part
     }
 
-    /// Appends a block. If another rope has the same bytes in the block at this place, the two share it. `false` if memory is
-    /// refused or the rope has the greatest number of blocks.
+    /// Appends a block. If the block of `like` at the same index has the same bytes, the two ropes share it. Answers `false`, with no
+    /// change, if memory is refused or the rope has the greatest number of blocks.
     pub(crate) fn push(&mut self, block: &[u8], like: Option<&Rope>) -> bool
         requires { length block.now ≡ 2048 }
         ensures { MatchBool result (self.new ≡ self.old ++ block.now) (self.new ≡ self.old) }
@@ -99,7 +101,8 @@ impl Rope {
         }
     }
 
-    /// Shares the last block with another rope, if that has the same bytes in the block at this place. It takes no memory.
+    /// Replaces the last block by the block of `like` at the same index, if both have the same
+    /// bytes, and frees the duplicate. It allocates nothing.
     pub(crate) fn share_last(&mut self, like: &Rope)
         ensures { self.new ≡ self.old }
     {
@@ -116,7 +119,7 @@ impl Rope {
         }
     }
 
-    /// Keeps the first so many blocks. It takes no memory.
+    /// Keeps the first `blocks` blocks, and removes the others. It allocates nothing.
     pub(crate) fn truncate(&mut self, blocks: usize)
         ensures { self.new ≡ take (2048 * blocks) self.old }
     {

@@ -1,7 +1,7 @@
-//! A text in packed blocks, as far as it has only characters of LRAT lines, and a plain tail.
+//! A text in packed blocks, up to the first block with a byte that is no character of LRAT lines, and after them a plain tail.
 
 ghost use Rattle.std.specs.Prelude.{◌≡◌, ℕ, ◌+◌, ◌*◌, ◌/◌, ◌<◌, ◌≤◌, ◌++◌, [], IsTrue, MatchBool, length, take, drop, vec_capacity, All, MatchOption, OnOk, OnErr, IfOk, flat_map};
-ghost use Rattle.lrat_text.specs.Grammar.{IsStep, IsClauseNumber};
+ghost use Rattle.lrat_text.specs.Grammar.{IsStep, IsStepWithin, IsClauseNumber};
 ghost use Rattle.lrat_text.specs.Steps.{step_of};
 ghost use Rattle.lrat_text.specs.WrittenLine.{line_of};
 ghost use Rattle.packed_text.specs.Packed.{BeginsWithCharacter, byte_text};
@@ -10,14 +10,15 @@ ghost use Rattle.packed_text.specs.inner.Packed.{IsFront, IsPair};
 use crate::glyphs::{pack, unpack};
 use crate::rope;
 use crate::rope::Rope;
-use lrat_text::{StepRef, put_ref};
+use lrat_text::{StepRef, put_ref_within};
 use std::alloc::{AllocError, Global};
 use std::marker::Model;
 
-/// How many characters are packed at once, into one block of bytes.
+/// The number of characters that are packed at once, into one block of bytes.
 const BLOCK: usize = 2 * rope::BLOCK;
 
-/// Packs a block of text and appends it. `false`, with no change, if a byte is no character of lines or memory is refused.
+/// Packs a block of text and appends it to the packed blocks. Answers `false`, with no change, if a byte is no character of lines or memory
+/// is refused.
 fn pack_block(pairs: &mut Rope, text: &[u8], like: Option<&Rope>) -> bool
     requires block { length text.now ≡ 4096 }
     requires pairs { All IsPair pairs.old }
@@ -28,7 +29,7 @@ fn pack_block(pairs: &mut Rope, text: &[u8], like: Option<&Rope>) -> bool
     pack(&mut block, text) && pairs.push(&block, like)
 }
 
-/// Packs a prefix of a text, block by block as far as it can be packed, and answers the prefix's length.
+/// Packs a text block by block, up to the first block that cannot be packed, and answers how many characters were packed.
 fn pack_front(pairs: &mut Rope, text: &[u8], like: Option<&Rope>) -> usize
     requires pairs { All IsPair pairs.old }
     ensures pairs { All IsPair pairs.new }
@@ -45,18 +46,22 @@ fn pack_front(pairs: &mut Rope, text: &[u8], like: Option<&Rope>) -> usize
     done
 }
 
-/// Removes the first `count` bytes.
+/// Removes the first `count` bytes, and keeps the capacity. With a `count` of 0 it copies nothing,
+/// since that is what each call asks for of a tail that cannot be packed.
 fn remove_front(bytes: &mut Vec<u8>, count: usize)
     requires { count ≤ length bytes.old.items }
     ensures items { bytes.new.items ≡ drop count bytes.old.items }
     ensures capacity { vec_capacity bytes.new ≡ vec_capacity bytes.old }
 {
+    if count == 0 {
+        return;
+    }
     let left = bytes.len() - count;
     bytes.copy_within(count.., 0);
     bytes.truncate(left);
 }
 
-/// Appends the text of `count` packed bytes from a place on.
+/// Appends the text of `count` packed bytes from offset `from` on.
 fn unpack_part(out: &mut Vec<u8>, pairs: &Rope, from: usize, count: usize) -> Result<(), AllocError>
     requires pairs { All IsPair pairs.now }
     requires inside { from + count ≤ length pairs.now }
@@ -73,8 +78,9 @@ fn unpack_part(out: &mut Vec<u8>, pairs: &Rope, from: usize, count: usize) -> Re
     Ok(())
 }
 
-/// A prefix of the text that the packed bytes from a place on make with the tail after them. From its first and from its second character
-/// on, it has `count` characters, or all there are.
+/// Unpacks the text from packed offset `from` (in bytes) on, then the tail: at least `count` + 1
+/// characters, or all that are left. One more than `count`, since the wanted text may begin with
+/// the second character of the first packed byte.
 fn front_of(
     alloc: Global,
     pairs: &Rope,
@@ -97,7 +103,7 @@ fn front_of(
     Ok(out)
 }
 
-/// The bytes of a tail from a place on, at most `count`.
+/// Answers the bytes of a tail from offset `from` on, at most `count`.
 fn part_of_tail(
     alloc: Global,
     tail: &[u8],
@@ -110,7 +116,8 @@ fn part_of_tail(
     Vec::from_slice(alloc, &part[..count.min(part.len())])
 }
 
-/// Keeps `count` bytes from the first or the second one on.
+/// Removes the first character if `from` is 1 (the wanted text begins with the second one of a
+/// packed byte), and then all except the first `count`.
 fn cut(bytes: &mut Vec<u8>, from: usize, count: usize)
     requires { (from ≤ 1) × (from ≤ length bytes.old.items) }
     ensures { bytes.new.items ≡ take count (drop from bytes.old.items) }
@@ -121,7 +128,8 @@ fn cut(bytes: &mut Vec<u8>, from: usize, count: usize)
     bytes.truncate(count);
 }
 
-/// Replaces the tail by the first `count` characters of a packed block. The tail has the capacity for it.
+/// Replaces the tail by the first `count` characters of a packed block, of which `truncate` keeps
+/// only a part. The tail has the capacity for the whole block, so no memory is taken.
 fn refill(tail: &mut Vec<u8>, block: &[u8], count: usize)
     requires block { All IsPair block.now }
     requires few { length block.now ≤ 2048 }
@@ -134,12 +142,12 @@ fn refill(tail: &mut Vec<u8>, block: &[u8], count: usize)
     tail.truncate(count);
 }
 
-/// A text in half its memory: two characters a byte. Any bytes may be appended; from the first block that has a byte other than
-/// the characters of lines, the text is stored plain.
+/// A text in half its memory: two characters a byte. Any bytes may be appended. From the first block with a byte that is no character of
+/// lines, the text is stored plain.
 pub struct PackedText {
     /// The packed blocks: two characters a byte.
     pairs: Rope,
-    /// The plain text after them.
+    /// The plain text after the packed blocks.
     tail: Vec<u8>,
 }
 
@@ -162,7 +170,7 @@ impl Model for PackedText {
 }
 
 impl PackedText {
-    /// The empty text. It takes no memory.
+    /// An empty text. It allocates nothing.
     pub fn new(alloc: Global) -> PackedText
         ensures { result ≡ [] }
     {
@@ -172,7 +180,7 @@ impl PackedText {
         }
     }
 
-    /// A packed copy of this text.
+    /// Makes a packed copy of a text.
     pub fn of(alloc: Global, text: &[u8]) -> Result<PackedText, AllocError>
         ensures { IfOk result (λ packed. packed ≡ text.now) }
     {
@@ -186,7 +194,7 @@ impl PackedText {
         Ok(packed)
     }
 
-    /// The length of the text in bytes.
+    /// Answers the length of the text in bytes.
     #[allow(clippy::len_without_is_empty)]
     pub fn len(&self) -> usize
         ensures { result ≡ length self.now }
@@ -204,8 +212,8 @@ impl PackedText {
         Ok(())
     }
 
-    /// Appends bytes as [`PackedText::extend`] does. A new block is shared with another text if that has the same bytes in the block at the
-    /// same place.
+    /// Appends bytes. A new packed block is shared with `like` if the block of `like` at the same index has the same bytes. If memory is
+    /// refused, the text is as before.
     pub fn extend_like(&mut self, more: &[u8], like: &PackedText) -> Result<(), AllocError>
         ensures ok { OnOk result (self.new ≡ self.old ++ more.now) }
         ensures err { OnErr result (self.new ≡ self.old) }
@@ -215,7 +223,7 @@ impl PackedText {
         Ok(())
     }
 
-    /// Shares the last block with another text, if that has the same bytes in the block at the same place. It takes no memory.
+    /// Shares the last packed block with the block of `like` at the same index, if that has the same bytes. It allocates nothing.
     ///
     /// A text that grows by less than a block (4,096 characters) at a time shares all that it can if this is called after each growth.
     pub fn share_last(&mut self, like: &PackedText)
@@ -224,7 +232,8 @@ impl PackedText {
         self.pairs.share_last(&like.pairs);
     }
 
-    /// Packs the tail's whole blocks, as far as they can be packed.
+    /// Moves the whole blocks of the tail into the packed part, up to the first one that cannot be
+    /// packed: a byte is no character of LRAT lines, or memory is refused.
     fn settle(&mut self, like: Option<&Rope>)
         ensures { self.new ≡ self.old }
     {
@@ -235,20 +244,37 @@ impl PackedText {
         remove_front(&mut self.tail, done);
     }
 
-    /// Appends a step's line. `line` is a buffer that is used again from call to call: the line is written to it by [`put_ref`] and then
-    /// appended. If memory is refused, the text is as before.
+    /// Appends the line of a step with variables up to 199,999,999, which [`put_ref_within`] writes to the buffer `line` first; its memory
+    /// is used again from call to call. If memory is refused, the text is as before.
+    pub fn put_within(
+        &mut self,
+        step: StepRef<'_>,
+        top: u64,
+        line: &mut Vec<u8>,
+    ) -> Result<(), AllocError>
+        requires limits { IsStepWithin 199999999 (step_of step) }
+        requires numbered { IsClauseNumber top }
+        ensures ok { OnOk result (self.new ≡ self.old ++ line_of top (step_of step.entry)) }
+        ensures err { OnErr result (self.new ≡ self.old) }
+    {
+        line.clear();
+        put_ref_within(step, top, line)?;
+        self.extend(line)
+    }
+
+    /// Appends the line of a step with variables up to 2,000,000. The line is written to the buffer
+    /// `line` first, whose memory is used again from call to call. If memory is refused, the text
+    /// is as before.
     pub fn put(&mut self, step: StepRef<'_>, top: u64, line: &mut Vec<u8>) -> Result<(), AllocError>
         requires limits { IsStep (step_of step) }
         requires numbered { IsClauseNumber top }
         ensures ok { OnOk result (self.new ≡ self.old ++ line_of top (step_of step.entry)) }
         ensures err { OnErr result (self.new ≡ self.old) }
     {
-        line.clear();
-        put_ref(step, top, line)?;
-        self.extend(line)
+        self.put_within(step, top, line)
     }
 
-    /// The bytes from a place on, at most `count`.
+    /// Copies the bytes of the text from offset `from` on, at most `count`.
     pub fn read(&self, alloc: Global, from: usize, count: usize) -> Result<Vec<u8>, AllocError>
         ensures { IfOk result (λ v. v.items ≡ take count (drop from self.now)) }
     {
@@ -261,7 +287,8 @@ impl PackedText {
         Ok(out)
     }
 
-    /// The bytes without a copy, if none of them is packed. `None` tells that the text begins with a character of lines.
+    /// Lends the whole text, if no block of it is packed. `None` says that some block is packed; so the text begins with a character of
+    /// lines.
     pub fn as_plain(&self) -> Option<&[u8]>
         ensures { MatchOption result (BeginsWithCharacter self.now) (λ bytes. bytes.now ≡ self.now) }
     {
@@ -271,14 +298,15 @@ impl PackedText {
         Some(&self.tail)
     }
 
-    /// A plain copy of the text.
+    /// Makes a plain copy of the text.
     pub fn to_text(&self, alloc: Global) -> Result<Vec<u8>, AllocError>
         ensures { IfOk result (λ text. text.items ≡ self.now) }
     {
         self.read(alloc, 0, self.len())
     }
 
-    /// Removes all bytes after the first `count`. It takes no memory.
+    /// Removes all bytes after the first `count`. A block that is cut is unpacked into the tail, so
+    /// it allocates nothing.
     pub fn truncate(&mut self, count: usize)
         ensures { self.new ≡ take count self.old }
     {

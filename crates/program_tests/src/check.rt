@@ -1,6 +1,7 @@
 //! What `check` prints.
 
-use node_main::run_check;
+use dimacs::{Limits, read_within};
+use node_main::{ProofCheck, run_check};
 use std::alloc::Global;
 use std::process::Abort;
 
@@ -123,4 +124,35 @@ const ROWS: &[Row] = &[
 #[test]
 fn proofs_are_verified_or_their_first_fault_is_told(rt: HostRuntime) {
     all_print(&rt, rt.alloc(), ROWS);
+}
+
+/// Two units of variable 1,000,001, which nothing satisfies.
+pub(crate) const WIDE: &[u8] = b"p cnf 1000001 2\n1000001 0\n-1000001 0\n";
+
+/// Inputs that are read within the large limits. The variables of a proof go to twice those of the input, if these are more than 1,000,000.
+const LARGE: &[Row] = &[
+    (WIDE, b"3 0 1 2 0\n", VERIFIED),
+    (WIDE, b"3 2000002 0 1 2 0\n4 0 1 2 0\n", VERIFIED),
+    (
+        WIDE,
+        b"3 2000003 0 1 2 0\n4 0 1 2 0\n",
+        b"s NOT VERIFIED\nc line 1 fault 1\n",
+    ),
+    (
+        FOUR,
+        b"5 2000001 2 0 1 2 0\n6 2 0 1 2 0\n7 0 6 3 4 0\n",
+        b"s NOT VERIFIED\nc line 1 fault 1\n",
+    ),
+    (b"p cnf 100000000 0\n", b"", b"c input line 1 fault 8\n"),
+];
+
+#[test]
+fn large_inputs_are_checked(rt: HostRuntime) {
+    for (input, proof, want) in LARGE {
+        let found = read_within(rt.alloc(), Limits::large(), *input);
+        let mut check = ProofCheck::of(rt.alloc(), found);
+        check.feed(*proof);
+        let report = check.finish().expect(&rt, "memory");
+        tells(&rt, report.stdout.as_slice(), report.status, *want);
+    }
 }

@@ -1,6 +1,6 @@
 //! What words ask for on a command line.
 
-use command_line::{Options, Printing, Request, USUAL, UsageFault, command};
+use command_line::{Command, Options, Printing, Request, USUAL, UsageFault, command, command_of};
 use std::alloc::Global;
 use std::process::Abort;
 
@@ -581,6 +581,65 @@ fn words_that_are_refused(rt: HostRuntime) {
     }
 }
 
+/// A command that takes `--large`, and its other words.
+const LARGE: &[(&'static str, &'static str)] = &[
+    ("solve", "f.cnf f.lrat"),
+    ("check", "f.cnf f.lrat"),
+    ("check", "--session f.icnf f.lidrup"),
+    ("model", "f.cnf answer"),
+    ("trim", "f.cnf f.lrat g.lrat"),
+    ("cubes", "--depth 3 f.cnf"),
+    ("cubes", "--cubes f.icnf --split 1 f.cnf"),
+    ("leaf", "--cubes f.icnf --leaf 1 f.cnf"),
+    ("refute", "--cubes f.icnf --leaf 1 f.cnf f.log"),
+    ("lift", "--cubes f.icnf --leaf 1 f.cnf f.lrat f.log"),
+    ("join", "--cubes f.icnf f.cnf f.lrat f.log"),
+    ("session", "f.icnf f.lidrup"),
+];
+
+/// A command that has no word for the large limits, and its other words.
+const WRITTEN: &[(&'static str, &'static str)] = &[
+    ("serve", "--port 4000 f.cnf"),
+    ("work", "--port 4000 f.cnf"),
+    ("drill", "--seed 0 --turns 0 f.cnf"),
+    ("receipt", "--cubes f.icnf f.cnf f.log f.receipt"),
+    ("cover", "--cubes f.icnf f.cnf f.receipt"),
+];
+
+/// A line of a command, the word, if there is one, and the other words.
+fn line_of(rt: &impl Abort, alloc: Global, command: &str, word: &str, other: &str) -> String {
+    let mut line = String::new(alloc);
+    for part in ["satcluster ", command, word, " ", other] {
+        line.push_str(part).expect(rt, "memory");
+    }
+    line
+}
+
+/// Whether words are taken, and if they are, whether they name the large limits.
+fn is_large(rt: &impl Abort, alloc: Global, line: &str) -> Option<bool> {
+    match command_of(alloc, &words_of(rt, alloc, line)) {
+        Ok(Command { request: _, large }) => Some(large),
+        Err(_) => None,
+    }
+}
+
+#[test]
+fn large_limits_are_named_by_a_word(rt: HostRuntime) {
+    let alloc = rt.alloc();
+    for (command, other) in LARGE {
+        let plain = line_of(&rt, alloc, *command, "", *other);
+        assert_eq!(&rt; is_large(&rt, alloc, plain.as_str()), Some(false));
+        let large = line_of(&rt, alloc, *command, " --large", *other);
+        assert_eq!(&rt; is_large(&rt, alloc, large.as_str()), Some(true));
+    }
+    for (command, other) in WRITTEN {
+        let plain = line_of(&rt, alloc, *command, "", *other);
+        assert_eq!(&rt; is_large(&rt, alloc, plain.as_str()), Some(false));
+        let large = line_of(&rt, alloc, *command, " --large", *other);
+        assert_eq!(&rt; is_large(&rt, alloc, large.as_str()), None);
+    }
+}
+
 /// A line that asks for help, or for the version, and what the text has.
 const HELPS: &[(&'static str, &'static str)] = &[
     ("satcluster --help", "<COMMAND>"),
@@ -589,6 +648,7 @@ const HELPS: &[(&'static str, &'static str)] = &[
     ("satcluster -V", "satcluster "),
     ("satcluster help solve", "[PROOF]"),
     ("satcluster solve --help", "<INPUT>"),
+    ("satcluster solve --help", "--large"),
     ("satcluster check -h", "<PROOF>"),
     ("satcluster cubes -h", "from 0 to 16"),
     ("satcluster cubes -h", "--split <split>"),

@@ -1,6 +1,6 @@
 //! Drills: closed schedules that are drawn.
 
-ghost use Rattle.std.specs.Prelude.{IfOk};
+ghost use Rattle.std.specs.Prelude.{◌≤◌, IfOk};
 ghost use Rattle.node_main.specs.DrillSchedule.{IsNew};
 
 use crate::check::same;
@@ -41,6 +41,7 @@ const WORDS: [[u64; 3]; 3] = [
 
 /// The cluster that a drill of a formula begins with.
 fn cluster_of(alloc: Global, formula: &Formula) -> Result<ClosedCluster, AllocError>
+    requires { formula.now.vars ≤ 1000000 }
     ensures { IfOk result (IsNew 3) }
 {
     let _ = formula.vars();
@@ -116,6 +117,7 @@ fn a_drill_prints_how_many_turns_it_took(rt: HostRuntime) {
 
 /// A drill of a formula by these words ends as the turns do that are played one by one.
 fn plays_its_turns(rt: &impl Abort, alloc: Global, formula: &Formula, words: &[[u64; 3]]) {
+    assert!(rt; formula.vars() <= 1_000_000);
     let mut drilled = cluster_of(alloc, formula).expect(rt, "memory");
     let report = run_drill(alloc, &mut drilled, words).expect(rt, "memory");
     assert!(rt; report.stdout.as_slice() == QUIET && report.status == 0);

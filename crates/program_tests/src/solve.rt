@@ -2,10 +2,13 @@
 
 ghost use Rattle.std.specs.Prelude.{◌≤◌};
 
-use crate::check::FOUR;
+use crate::check::{FOUR, WIDE};
 use crate::run_reports::{ALONE, refutes, says, solved};
-use dimacs::{read, write};
-use node_main::Options;
+use dimacs::{Limits, read, read_within, write};
+use links::{Counted, Memory};
+use node_main::{Options, Start, begin_within, run_solve_within};
+use std::alloc::Global;
+use std::process::Abort;
 
 /// The eight clauses over three variables, which nothing satisfies.
 const EIGHT: &[u8] =
@@ -42,6 +45,40 @@ fn a_refutation_is_a_proof_that_is_verified(rt: HostRuntime) {
     let a = rt.alloc();
     refutes(&rt, a, FOUR, &solved(&rt, a, FOUR, None, &ALONE));
     refutes(&rt, a, EIGHT, &solved(&rt, a, EIGHT, None, &BRIEF));
+}
+
+/// The most that may be split.
+const DEEP: Options = Options { depth: 6, ..ALONE };
+
+/// How many leaves the tree has by which an input within the large limits is split.
+fn leaves_of(rt: &impl Abort, alloc: Global, input: &[u8], cubes: Option<&[u8]>) -> usize {
+    let limits = Limits::large();
+    let found = read_within(alloc, limits, input);
+    match begin_within(alloc, found, limits, cubes, &DEEP) {
+        Ok(Start::With(_, tree)) => tree.leaves(),
+        _ => panic!(rt; "the input is refused"),
+    }
+}
+
+/// The four clauses over more variables.
+const WIDE_FOUR: &[u8] = b"p cnf 1000001 4\n1 2 0\n-1 2 0\n1 -2 0\n-1 -2 0\n";
+
+/// The four clauses, and two cubes.
+const CUT_FOUR: &[u8] = b"p inccnf\n1 2 0\n-1 2 0\n1 -2 0\n-1 -2 0\na 1 0\na -1 0\n";
+
+#[test]
+fn a_formula_of_more_than_a_million_variables_is_not_split(rt: HostRuntime) {
+    let a = rt.alloc();
+    assert!(&rt; leaves_of(&rt, a, FOUR, None) > 1);
+    assert_eq!(&rt; leaves_of(&rt, a, FOUR, Some(CUT_FOUR)), 2);
+    assert_eq!(&rt; leaves_of(&rt, a, WIDE_FOUR, None), 1);
+    assert_eq!(&rt; leaves_of(&rt, a, WIDE_FOUR, Some(CUT_FOUR)), 1);
+    let limits = Limits::large();
+    let mut links = Counted::new(Memory::new(a, DEEP.workers).expect(&rt, "memory"));
+    let found = read_within(a, limits, WIDE);
+    let report = run_solve_within(a, found, limits, None, &DEEP, &mut links).expect(&rt, "memory");
+    assert_eq!(&rt; report.status, 20);
+    assert_eq!(&rt; report.stdout.as_slice(), b"s UNSATISFIABLE\n".as_slice());
 }
 
 const SHORT: Options = Options {

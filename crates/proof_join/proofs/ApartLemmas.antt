@@ -4,7 +4,7 @@ use Rattle.std.specs.Borrow.{Bor}
 use Rattle.std.proofs.lemmas.List.Elements.{All-nil}
 use Rattle.dimacs.specs.logic.Literal.{Literal, IsWithin}
 use Rattle.dimacs.specs.logic.Rat.{Group}
-use Rattle.lrat_text.specs.Grammar.{IsStep}
+use Rattle.lrat_text.specs.Grammar.{IsStepWithin}
 use Rattle.lrat_text.specs.WrittenLine.{line_text, literals_text, canonical_parts}
 use Rattle.lrat_text.specs.declared.step.Step.{Step}
 use Rattle.lrat_text.specs.declared.step.Step.TheVariants.{Add, Delete}
@@ -29,10 +29,10 @@ apart_addition text id lits hints groups (Add n ls hs gs) h = (ls, parts h.0, h.
 apart_addition text id lits hints groups (Delete ids) h = absurd h
 
 -- what is so of a step is so of it without its literals
-pub held_limits : (found : Option (Bor (List ℕ))) (held step : Step) → IsHeld found held step → IsStep step → IsStep held
-held_limits None held step h limits = subst IsStep (sym h) limits
-held_limits (Some text) held (Add id lits hints groups) h limits = subst IsStep (sym h.0) (limits.0, All-nil (IsWithin 2000000), limits.2, limits.3)
-held_limits (Some text) held (Delete ids) h limits = absurd h
+pub held_limits : (most : ℕ) (found : Option (Bor (List ℕ))) (held step : Step) → IsHeld found held step → IsStepWithin most step → IsStepWithin most held
+held_limits most None held step h limits = subst (IsStepWithin most) (sym h) limits
+held_limits most (Some text) held (Add id lits hints groups) h limits = subst (IsStepWithin most) (sym h.0) (limits.0, All-nil (IsWithin most), limits.2, limits.3)
+held_limits most (Some text) held (Delete ids) h limits = absurd h
 
 pub held_low : (k : ℕ) (found : Option (Bor (List ℕ))) (held step : Step) → IsHeld found held step → IsLow k step → IsLow k held
 held_low k None held step h low = subst (IsLow k) (sym h) low

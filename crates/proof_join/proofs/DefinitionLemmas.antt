@@ -1,5 +1,5 @@
 -- The lines of definitions lead from the units' base to the base with definitions.
-use Rattle.std.proofs.Common.{◌≡◌, ◌≢◌, ℕ, zero, suc, ◌+◌, ◌*◌, ◌^◌, ◌<◌, ◌≤◌, inl, inr, Bool, true, false, not, List, [], ◌∷◌, ◌++◌, map, length, Some, cond, refl, sym, ◌∙◌, ap, subst, arith, append_assoc, length-append}
+use Rattle.std.proofs.Common.{◌≡◌, ◌≢◌, ℕ, max, zero, suc, ◌+◌, ◌*◌, ◌^◌, ◌<◌, ◌≤◌, inl, inr, Bool, true, false, not, List, [], ◌∷◌, ◌++◌, map, length, Some, cond, refl, sym, ◌∙◌, ap, subst, arith, append_assoc, length-append}
 use Rattle.std.specs.List.{All, AllByRecursion, enumerate_from, flat_map}
 use Rattle.std.specs.FinMap.{get, insert, find, from_entries, get-from_entries, from_entries_push, nat_cmp-IsAntisymmetric}
 use Rattle.std.specs.Ordering.{nat_cmp, eq_by_cmp}
@@ -15,8 +15,8 @@ use Rattle.dimacs.proofs.WithinLemmas.{EachWithin, each_within}
 use Rattle.dimacs.specs.logic.Literal.{Literal, Pos, Neg, Clause, IsTrueIn, IsWithin, negation, var_of}
 use Rattle.dimacs.proofs.LiteralLemmas.{var_of-negation}
 use Rattle.icnf.specs.Leaves.{Cube}
-use Rattle.lrat_text.specs.Grammar.{IsStep, IsClauseNumber, IsGroup}
-use Rattle.lrat_text.specs.Proof.{Accepts}
+use Rattle.lrat_text.specs.Grammar.{IsStepWithin, IsClauseNumber, IsGroup}
+use Rattle.lrat_text.specs.Proof.{Accepts, proof_top}
 use Rattle.lrat_text.specs.declared.step.Step.{Step}
 use Rattle.lrat_text.specs.declared.step.Step.TheVariants.{Add, Delete}
 use Rattle.cube_split.proofs.PureLemmas.{pure_within}
@@ -149,33 +149,33 @@ clauses_length d (p ∷ pairs) = let e = clauses_length (d + 1) pairs in omega a
 group_limits : (n : ℕ) → IsClauseNumber n → All IsGroup ((n, []) ∷ [])
 group_limits n h = All-cons IsGroup (n, []) [] (h, All-nil IsClauseNumber) (All-nil IsGroup)
 
-within_two : (l k : Literal) → IsWithin 2000000 l → IsWithin 2000000 k → All (IsWithin 2000000) (l ∷ k ∷ [])
-within_two l k h g = All-cons (IsWithin 2000000) l (k ∷ []) h (All-cons (IsWithin 2000000) k [] g (All-nil (IsWithin 2000000)))
+within_two : (most : ℕ) (l k : Literal) → IsWithin most l → IsWithin most k → All (IsWithin most) (l ∷ k ∷ [])
+within_two most l k h g = All-cons (IsWithin most) l (k ∷ []) h (All-cons (IsWithin most) k [] g (All-nil (IsWithin most)))
 
-within_negation : (l : Literal) → IsWithin 2000000 l → IsWithin 2000000 (negation l)
-within_negation l h = let e = var_of-negation l in let a = h.0 in let b = h.1 in (omega arith, omega arith)
+within_negation : (most : ℕ) (l : Literal) → IsWithin most l → IsWithin most (negation l)
+within_negation most l h = let e = var_of-negation l in let a = h.0 in let b = h.1 in (omega arith, omega arith)
 
-all_limits : (vars : ℕ) (pairs : List Pair) (top d : ℕ) → vars + 1 ≤ d → d + length pairs ≤ 2000001 → top + 3 * length pairs < 2 ^ 48 → All (IsPairOf vars) pairs → All IsStep (all_steps top d pairs)
-all_limits vars [] top d low few short are = All-nil IsStep
-all_limits vars (p ∷ pairs) top d low few short are =
+all_limits : (most vars : ℕ) (pairs : List Pair) (top d : ℕ) → vars + 1 ≤ d → d + length pairs ≤ most + 1 → top + 3 * length pairs < 2 ^ 48 → All (IsPairOf vars) pairs → All (IsStepWithin most) (all_steps top d pairs)
+all_limits most vars [] top d low few short are = All-nil (IsStepWithin most)
+all_limits most vars (p ∷ pairs) top d low few short are =
     let is : IsPairOf vars p = All-head (IsPairOf vars) p pairs are in
     let f = is.from_1 in
     let r = is.rise in
     let u = is.up_to in
-    let a : IsWithin 2000000 p.first = (omega arith, omega arith) in
-    let b : IsWithin 2000000 p.second = (omega arith, omega arith) in
+    let a : IsWithin most p.first = (omega arith, omega arith) in
+    let b : IsWithin most p.second = (omega arith, omega arith) in
     let c : IsClauseNumber (top + 1) = (omega arith, omega arith) in
-    let one : IsStep (Add (top + 1) (both_clause d p) [] []) =
-    (c, All-cons (IsWithin 2000000) (Pos d) (negation p.first ∷ negation p.second ∷ []) (omega arith, omega arith) (within_two (negation p.first) (negation p.second) (within_negation p.first a) (within_negation p.second b)), All-nil IsClauseNumber, All-nil IsGroup) in
-    let two : IsStep (Add (top + 2) (part_clause d p.first) [] ((top + 1, []) ∷ [])) =
-    ((omega arith, omega arith), within_two (Neg d) p.first (omega arith, omega arith) a, All-nil IsClauseNumber, group_limits (top + 1) c) in
-    let three : IsStep (Add (top + 3) (part_clause d p.second) [] ((top + 1, []) ∷ [])) =
-    ((omega arith, omega arith), within_two (Neg d) p.second (omega arith, omega arith) b, All-nil IsClauseNumber, group_limits (top + 1) c) in
-    All-append IsStep (definition_steps top d p) (all_steps (top + 3) (d + 1) pairs)
-    (All-cons IsStep (Add (top + 1) (both_clause d p) [] []) (Add (top + 2) (part_clause d p.first) [] ((top + 1, []) ∷ []) ∷ Add (top + 3) (part_clause d p.second) [] ((top + 1, []) ∷ []) ∷ []) one
-    (All-cons IsStep (Add (top + 2) (part_clause d p.first) [] ((top + 1, []) ∷ [])) (Add (top + 3) (part_clause d p.second) [] ((top + 1, []) ∷ []) ∷ []) two
-    (All-cons IsStep (Add (top + 3) (part_clause d p.second) [] ((top + 1, []) ∷ [])) [] three (All-nil IsStep))))
-    (all_limits vars pairs (top + 3) (d + 1) (omega arith) (omega arith) (omega arith) (All-tail (IsPairOf vars) p pairs are))
+    let one : IsStepWithin most (Add (top + 1) (both_clause d p) [] []) =
+    (c, All-cons (IsWithin most) (Pos d) (negation p.first ∷ negation p.second ∷ []) (omega arith, omega arith) (within_two most (negation p.first) (negation p.second) (within_negation most p.first a) (within_negation most p.second b)), All-nil IsClauseNumber, All-nil IsGroup) in
+    let two : IsStepWithin most (Add (top + 2) (part_clause d p.first) [] ((top + 1, []) ∷ [])) =
+    ((omega arith, omega arith), within_two most (Neg d) p.first (omega arith, omega arith) a, All-nil IsClauseNumber, group_limits (top + 1) c) in
+    let three : IsStepWithin most (Add (top + 3) (part_clause d p.second) [] ((top + 1, []) ∷ [])) =
+    ((omega arith, omega arith), within_two most (Neg d) p.second (omega arith, omega arith) b, All-nil IsClauseNumber, group_limits (top + 1) c) in
+    All-append (IsStepWithin most) (definition_steps top d p) (all_steps (top + 3) (d + 1) pairs)
+    (All-cons (IsStepWithin most) (Add (top + 1) (both_clause d p) [] []) (Add (top + 2) (part_clause d p.first) [] ((top + 1, []) ∷ []) ∷ Add (top + 3) (part_clause d p.second) [] ((top + 1, []) ∷ []) ∷ []) one
+    (All-cons (IsStepWithin most) (Add (top + 2) (part_clause d p.first) [] ((top + 1, []) ∷ [])) (Add (top + 3) (part_clause d p.second) [] ((top + 1, []) ∷ []) ∷ []) two
+    (All-cons (IsStepWithin most) (Add (top + 3) (part_clause d p.second) [] ((top + 1, []) ∷ [])) [] three (All-nil (IsStepWithin most)))))
+    (all_limits most vars pairs (top + 3) (d + 1) (omega arith) (omega arith) (omega arith) (All-tail (IsPairOf vars) p pairs are))
 
 both_length : (first count : ℕ) → length (flat_map (λ v. Pos v ∷ Neg v ∷ []) (numbers_from first count)) ≡ 2 * count
 both_length first zero = refl
@@ -232,20 +232,23 @@ definitions_lead F pairs limits are few =
     let b = steps_length (m + length units) (F.vars + 1) pairs in
     let c = length-append (base_of F).clauses (all_clauses (F.vars + 1) pairs) in
     let d = clauses_length (F.vars + 1) pairs in
+    let room : F.vars + length pairs ≤ max 2000000 (2 * F.vars) = omega arith in
+    let fits : F.vars + 1 + length pairs ≤ max 2000000 (2 * F.vars) + 1 = omega arith in
     record {
       rat = rat_append (map_of F) m start more lead.rat
           (subst (λ (M : ClauseMap). AreRatSteps M (top_of m start) more) lead.base
           (subst (λ (n : ℕ). AreRatSteps (map_of (base_of F)) n more) (sym top)
           (all_rat F.vars pairs (map_of (base_of F)) (m + length units) (F.vars + 1) (omega arith) (base_under F limits) are)));
-      limits = All-append IsStep start more lead.limits (all_limits F.vars pairs (m + length units) (F.vars + 1) (omega arith) (omega arith) (omega arith) are);
+      limits = All-append (IsStepWithin (proof_top F)) start more lead.limits (all_limits (proof_top F) F.vars pairs (m + length units) (F.vars + 1) (omega arith) fits (omega arith) are);
       base = sym (after_append (map_of F) start more ∙ ap (λ (M : ClauseMap). after_steps M more) (sym lead.base) ∙ all_after pairs (base_of F).clauses (m + length units) (F.vars + 1) count);
       count = omega arith;
+      vars = room;
     }
 
 pub definitions_accept : (F : Cnf) (pairs : List Pair) (leaves : List Cube) (texts : List (List ℕ)) (text : List ℕ) → IsFormula F → All (IsPairOf F.vars) pairs → length pairs ≤ 64
     → AllClose (base_with F pairs) leaves texts → Joined F (preamble_steps F pairs) leaves texts text → length text < 2 ^ 32 → Accepts F text
 definitions_accept F pairs leaves texts text limits are few close joined short =
-    joined_accepts F (base_with F pairs) (preamble_steps F pairs) leaves texts text limits.clauses (definitions_lead F pairs limits are few) close joined short
+    joined_accepts F (base_with F pairs) (preamble_steps F pairs) leaves texts text limits.vars limits.clauses (definitions_lead F pairs limits are few) close joined short
 
 all_front : (P : Clause → Type 0) (xs ys : List Clause) → All P (xs ++ ys) → All P xs
 all_front P [] ys h = All-nil P

@@ -1,5 +1,5 @@
 -- Lines of a preamble.
-use Rattle.std.proofs.Common.{◌≡◌, ℕ, zero, suc, ◌+◌, ◌*◌, ◌^◌, ◌<◌, ◌≤◌, inr, not, List, [], ◌∷◌, ◌++◌, map, length, refl, sym, ◌∙◌, ap, subst, arith, append_assoc, length-append}
+use Rattle.std.proofs.Common.{◌≡◌, ℕ, max, zero, suc, ◌+◌, ◌*◌, ◌^◌, ◌<◌, ◌≤◌, inr, not, List, [], ◌∷◌, ◌++◌, map, length, refl, sym, ◌∙◌, ap, subst, arith, append_assoc, length-append}
 use Rattle.std.specs.List.{All, enumerate_from, flat_map}
 use Rattle.std.specs.FinMap.{insert, from_entries, get-from_entries, from_entries_push, nat_cmp-IsAntisymmetric}
 use Rattle.std.specs.Cmp.{nat_cmp_total}
@@ -11,8 +11,8 @@ use Rattle.dimacs.specs.logic.Rat.{Rat}
 use Rattle.dimacs.specs.logic.ClauseMap.{ClauseMap, map_of, live_in}
 use Rattle.dimacs.specs.logic.Cnf.{Cnf, IsFormula}
 use Rattle.dimacs.specs.logic.Literal.{Literal, Pos, Neg, Clause, IsWithin}
-use Rattle.lrat_text.specs.Grammar.{LineSpells, IsStep, IsClauseNumber, IsGroup}
-use Rattle.lrat_text.specs.Proof.{Refutation}
+use Rattle.lrat_text.specs.Grammar.{LineSpellsWithin, IsStepWithin, IsClauseNumber, IsGroup}
+use Rattle.lrat_text.specs.Proof.{Refutation, proof_top}
 use Rattle.lrat_text.specs.declared.step.Step.{Step}
 use Rattle.lrat_text.specs.declared.step.Step.TheVariants.{Add, Delete}
 use Rattle.cube_split.specs.SplitTree.{with_units}
@@ -36,13 +36,13 @@ rat_refutes M top (Add id lits hints groups ∷ steps) more (next, rat, rest) r 
     (insert M id lits, id, (omega arith, inr rat, refl, refl), inr (rat_refutes (insert M id lits) id steps more rest r))
 rat_refutes M top (Delete ids ∷ steps) more h r = absurd h
 
-pub rat_spells : (M : ClauseMap) (top : ℕ) (steps : List Step) → AreRatSteps M top steps → All IsStep steps → LineSpells (text_of top steps) steps
-rat_spells M top [] h limits = refl
-rat_spells M top (Add id lits hints groups ∷ steps) (next, rat, rest) limits =
-    let here : IsStep (Add id lits hints groups) = All-head IsStep (Add id lits hints groups) steps limits in
-    spells_cons top id (Add id lits hints groups) (text_of id steps) steps refl here.0 here
-    (rat_spells (insert M id lits) id steps rest (All-tail IsStep (Add id lits hints groups) steps limits))
-rat_spells M top (Delete ids ∷ steps) h limits = absurd h
+pub rat_spells : (most : ℕ) → most < 2 ^ 48 → (M : ClauseMap) (top : ℕ) (steps : List Step) → AreRatSteps M top steps → All (IsStepWithin most) steps → LineSpellsWithin most (text_of top steps) steps
+rat_spells most few M top [] h limits = refl
+rat_spells most few M top (Add id lits hints groups ∷ steps) (next, rat, rest) limits =
+    let here : IsStepWithin most (Add id lits hints groups) = All-head (IsStepWithin most) (Add id lits hints groups) steps limits in
+    spells_cons most few top id (Add id lits hints groups) (text_of id steps) steps refl here.0 here
+    (rat_spells most few (insert M id lits) id steps rest (All-tail (IsStepWithin most) (Add id lits hints groups) steps limits))
+rat_spells most few M top (Delete ids ∷ steps) h limits = absurd h
 
 -- ---- the units of pure literals
 abbrev numbered : List Clause → ClauseMap
@@ -96,14 +96,14 @@ pub units_length : (top : ℕ) (units : List Literal) → length (unit_steps top
 units_length top [] = refl
 units_length top (l ∷ units) = let e = units_length (top + 1) units in omega arith
 
-units_limits : (vars top : ℕ) (units : List Literal) → vars ≤ 2000000 → top + length units < 2 ^ 48 → All (IsWithin vars) units → All IsStep (unit_steps top units)
-units_limits vars top [] few low within = All-nil IsStep
-units_limits vars top (l ∷ units) few low within =
+units_limits : (most vars top : ℕ) (units : List Literal) → vars ≤ most → top + length units < 2 ^ 48 → All (IsWithin vars) units → All (IsStepWithin most) (unit_steps top units)
+units_limits most vars top [] few low within = All-nil (IsStepWithin most)
+units_limits most vars top (l ∷ units) few low within =
     let here : IsWithin vars l = All-head (IsWithin vars) l units within in
     let above = here.1 in
-    All-cons IsStep (Add (top + 1) (l ∷ []) [] []) (unit_steps (top + 1) units)
-    ((omega arith, omega arith), All-cons (IsWithin 2000000) l [] (here.0, omega arith) (All-nil (IsWithin 2000000)), All-nil IsClauseNumber, All-nil IsGroup)
-    (units_limits vars (top + 1) units few (omega arith) (All-tail (IsWithin vars) l units within))
+    All-cons (IsStepWithin most) (Add (top + 1) (l ∷ []) [] []) (unit_steps (top + 1) units)
+    ((omega arith, omega arith), All-cons (IsWithin most) l [] (here.0, omega arith) (All-nil (IsWithin most)), All-nil IsClauseNumber, All-nil IsGroup)
+    (units_limits most vars (top + 1) units few (omega arith) (All-tail (IsWithin vars) l units within))
 
 both_length : (first count : ℕ) → length (flat_map (λ v. Pos v ∷ Neg v ∷ []) (numbers_from first count)) ≡ 2 * count
 both_length first zero = refl
@@ -124,10 +124,12 @@ units_lead f limits =
     let few = pure_few f in
     let vars = limits.vars in
     let clauses = limits.clauses in
+    let room : f.vars ≤ max 2000000 (2 * f.vars) = omega arith in
     record {
       rat = units_rat f [] (pure_literals f) (map_of f) (length f.clauses) refl (no_unit f) (omega arith);
-      limits = units_limits f.vars (length f.clauses) (pure_literals f) (omega arith) (omega arith) (pure_within f);
+      limits = units_limits (proof_top f) f.vars (length f.clauses) (pure_literals f) room (omega arith) (pure_within f);
       base = sym (units_after f [] (pure_literals f) (map_of f) (length f.clauses) (no_unit f) (omega arith));
       count = length-append f.clauses (map (λ l. l ∷ []) (pure_literals f))
           ∙ ap (λ (n : ℕ). length f.clauses + n) (length-map (pure_literals f) (λ (l : Literal). l ∷ []) ∙ sym (units_length (length f.clauses) (pure_literals f)));
+      vars = room;
     }

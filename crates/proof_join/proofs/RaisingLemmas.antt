@@ -69,14 +69,14 @@ record Splits (steps : List Step) (step : Step) (line later : List ℕ) : Type 0
 
 first_line : (rest line later : List ℕ) (steps : List Step) → IsCut rest line later → LineSpells rest steps → (step : Step) × Splits steps step line later
 first_line rest line later steps cut h =
-    let known : steps_in rest ≡ steps = spelled_in rest steps h in
-    let n = next_line rest line later cut (subst (LineSpells rest) (sym known) h) in
+    let known : steps_in rest ≡ steps = spelled_in 2000000 (omega arith) rest steps h in
+    let n = next_line 2000000 (omega arith) rest line later cut (subst (LineSpells rest) (sym known) h) in
     (n.step, record { spells = n.spells; more = steps_in later; are = sym known ∙ n.steps; spelled = n.spelled })
 
 split_line : (rest line later : List ℕ) (steps : List Step) (step : Step) → IsCut rest line later → LineSpells rest steps → SpellsStep line step → Splits steps step line later
 split_line rest line later steps step cut h spells =
     let f = first_line rest line later steps cut h in
-    subst (λ (s : Step). Splits steps s line later) (read_same line f.0 step f.1.spells spells) f.1
+    subst (λ (s : Step). Splits steps s line later) (read_same 2000000 (omega arith) line f.0 step f.1.spells spells) f.1
 
 one_line : (line : List ℕ) → IsOpen line → ¬ (Contains line 10)
 one_line line open_line i = both_ways (nat_eq 10 10) (All-contains (λ n. (n == 10) ≡ false) line 10 open_line i) refl
@@ -170,7 +170,7 @@ not_put m e top text out rest line later step NoMemory u cut spells long = tt
 pub no_end : (m e top : ℕ) (text out rest : List ℕ) → IsUnderWay m e text top out rest → IsOpen rest → (length rest == 0) ≡ false → (new : List ℕ) → ¬ (Renumbers m e text new)
 no_end m e top text out rest u none some new h =
     let l = u.leads new h in
-    let known : steps_in rest ≡ l.steps = spelled_in rest l.steps l.spelled in
-    let e : l.steps ≡ [] = sym known ∙ no_line rest none (subst (LineSpells rest) (sym known) l.spelled) in
+    let known : steps_in rest ≡ l.steps = spelled_in 2000000 (omega arith) rest l.steps l.spelled in
+    let e : l.steps ≡ [] = sym known ∙ no_line 2000000 rest none (subst (LineSpells rest) (sym known) l.spelled) in
     let empty : rest ≡ [] = subst (LineSpells rest) e l.spelled in
     both_ways (length rest == 0) some (eq-eqb (length rest) 0 (ap (λ (xs : List ℕ). length xs) empty))

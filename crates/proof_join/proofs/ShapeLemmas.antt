@@ -1,5 +1,5 @@
 -- The leaves and their fragments determine the tree, and so the joined text.
-use Rattle.std.proofs.Common.{◌≡◌, ℕ, List, [], ◌∷◌, ◌++◌, length, refl, sym, ◌∙◌, ap, subst, arith, append_assoc, length-append}
+use Rattle.std.proofs.Common.{◌≡◌, ℕ, max, ◌≤◌, List, [], ◌∷◌, ◌++◌, length, refl, sym, ◌∙◌, ap, subst, arith, append_assoc, length-append}
 use Rattle.std.proofs.lemmas.List.{append-nil}
 use Rattle.dimacs.specs.logic.Cnf.{Cnf}
 use Rattle.dimacs.specs.logic.Literal.{Literal, negation}
@@ -7,6 +7,8 @@ use Rattle.icnf.specs.Leaves.{Cube, IsFree, Leaves}
 use Rattle.icnf.specs.Leaves as icnf
 use Rattle.lrat_text.specs.declared.step.Step.{Step}
 use Rattle.proof_join.specs.JoinedProof.{Closed, leaf, fork, fragments, cubes, AreFree, joined_text, AreSpelled, Joined, AllClose}
+use Rattle.lrat_text.specs.Log.{log_top}
+use Rattle.lrat_text.proofs.LineLemmas.{spells_more}
 use Rattle.proof_join.proofs.JoinLemmas.{spelled_once}
 
 -- ---- one tree
@@ -81,7 +83,7 @@ same_spelled [] (x ∷ xs) ys h g = absurd h
 same_spelled (text ∷ texts) [] ys h g = absurd h
 same_spelled (text ∷ texts) (x ∷ xs) [] h g = absurd g
 same_spelled (text ∷ texts) (x ∷ xs) (y ∷ ys) h g =
-    ap (λ (s : List Step). s ∷ xs) (spelled_once text x y h.0 g.0) ∙ ap (λ (ss : List (List Step)). y ∷ ss) (same_spelled texts xs ys h.1 g.1)
+    ap (λ (s : List Step). s ∷ xs) (spelled_once 199999999 (omega arith) text x y h.0 g.0) ∙ ap (λ (ss : List (List Step)). y ∷ ss) (same_spelled texts xs ys h.1 g.1)
 
 pub joined_once : (F : Cnf) (preamble : List Step) (leaves : List Cube) (texts : List (List ℕ)) (s t : List ℕ) → Joined F preamble leaves texts s → Joined F preamble leaves texts t → s ≡ t
 joined_once F preamble leaves texts s t a b =
@@ -100,13 +102,14 @@ record IsBuilt (B : Cnf) (path : Cube) (leaves later : List Cube) (texts : List 
   pub close : AllClose B later left
   pub spelled : (more : List (List Step)) → AreSpelled left more → AreSpelled texts (fragments tree ++ more)
 
-built : (B : Cnf) {path : Cube} {leaves : List Cube} → Leaves path leaves → (later : List Cube) (texts : List (List ℕ)) → AllClose B (leaves ++ later) texts → IsBuilt B path leaves later texts
-built B icnf.leaf later [] close = absurd close
-built B icnf.leaf later (text ∷ texts) close =
-    record { tree = leaf close.0.0; free = tt; leaves_are = refl; left = texts; close = close.1; spelled = λ more h. (close.0.1, h) }
-built B (icnf.fork {path = path} {left = a} {right = b} x free first second) later texts close =
-    let one = built B first (b ++ later) texts (subst (λ (cs : List Cube). AllClose B cs texts) (append_assoc a b later) close) in
-    let two = built B second later one.left one.close in
+built : (B : Cnf) → B.vars ≤ 199999999 → {path : Cube} {leaves : List Cube} → Leaves path leaves → (later : List Cube) (texts : List (List ℕ)) → AllClose B (leaves ++ later) texts → IsBuilt B path leaves later texts
+built B low icnf.leaf later [] close = absurd close
+built B low icnf.leaf later (text ∷ texts) close =
+    let most : max 2000000 B.vars ≤ 199999999 = omega arith in
+    record { tree = leaf close.0.0; free = tt; leaves_are = refl; left = texts; close = close.1; spelled = λ more h. (spells_more (log_top B) 199999999 most text close.0.0 close.0.1, h) }
+built B low (icnf.fork {path = path} {left = a} {right = b} x free first second) later texts close =
+    let one = built B low first (b ++ later) texts (subst (λ (cs : List Cube). AllClose B cs texts) (append_assoc a b later) close) in
+    let two = built B low second later one.left one.close in
     record {
       tree = fork x one.tree two.tree;
       free = (free, one.free, two.free);
@@ -120,9 +123,9 @@ none_left : (B : Cnf) (texts : List (List ℕ)) → AllClose B [] texts → AreS
 none_left B [] h = tt
 none_left B (text ∷ texts) h = h
 
-pub joined_some : (F B : Cnf) (preamble : List Step) (leaves : List Cube) (texts : List (List ℕ)) → Leaves [] leaves → AllClose B leaves texts → (text : List ℕ) × Joined F preamble leaves texts text
-joined_some F B preamble leaves texts tree close =
-    let b = built B tree [] texts (subst (λ (cs : List Cube). AllClose B cs texts) (sym (append-nil leaves)) close) in (
+pub joined_some : (F B : Cnf) (preamble : List Step) (leaves : List Cube) (texts : List (List ℕ)) → B.vars ≤ 199999999 → Leaves [] leaves → AllClose B leaves texts → (text : List ℕ) × Joined F preamble leaves texts text
+joined_some F B preamble leaves texts low tree close =
+    let b = built B low tree [] texts (subst (λ (cs : List Cube). AllClose B cs texts) (sym (append-nil leaves)) close) in (
       joined_text F preamble b.tree,
       record {
         tree = b.tree;

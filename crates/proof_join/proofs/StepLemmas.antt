@@ -5,16 +5,16 @@ use Rattle.std.proofs.lemmas.Bool.{cases_lt}
 use Rattle.std.proofs.lemmas.List.Elements.{All-weaker, All-map, All-contains, All-contains_itself}
 use Rattle.dimacs.specs.logic.Literal.{Clause}
 use Rattle.dimacs.specs.logic.Rat.{Group}
-use Rattle.lrat_text.specs.Grammar.{LineSpells, SpellsStep, IsStep, IsClauseNumber}
-use Rattle.lrat_text.specs.Lines.{AllRead, IsCut, IsOpen}
+use Rattle.lrat_text.specs.Grammar.{LineSpellsWithin, SpellsStepWithin, IsStepWithin, IsClauseNumber}
+use Rattle.lrat_text.specs.Lines.{AllReadWithin, IsCut, IsOpen}
 use Rattle.lrat_text.specs.Log.{top_after}
 use Rattle.lrat_text.specs.WrittenLine.{line_text, line_of}
 use Rattle.lrat_text.specs.declared.fault.TextFault.{TextFault}
 use Rattle.lrat_text.specs.declared.step.Step.{Step}
 use Rattle.lrat_text.specs.declared.step.Step.TheVariants.{Add, Delete}
 use Rattle.lrat_text.proofs.CutLemmas.{cut_same, none_cut}
-use Rattle.lrat_text.proofs.LineLemmas.{spelled_read}
-use Rattle.lrat_text.proofs.SpellingLemmas.{spelled_found}
+use Rattle.lrat_text.proofs.LineLemmas.{spelled_read_within, spells_more}
+use Rattle.lrat_text.proofs.SpellingLemmas.{spelled_found_within}
 use Rattle.dimacs.specs.text.Words
 use Rattle.proof_join.specs.RenumberedSteps.{behind, renumbered}
 use Rattle.lrat_text.specs.Runs.{text_of, top_of}
@@ -37,67 +37,67 @@ numbers_behind b t k ns low base few up limits =
     All-map IsClauseNumber (behind b t) ns (All-weaker (Contains ns) (λ n. IsClauseNumber (behind b t n))
     (λ n i. behind_number b t k n low base few (All-contains (λ n. n ≤ k) ns n up i) (All-contains IsClauseNumber ns n limits i)) ns (All-contains_itself ns))
 
-pub low_addition : (b t k id : ℕ) (lits : Clause) (hints : List ℕ) (groups : List Group) → b ≤ t → b ≤ k → t + (k - b) + 1 < 2 ^ 48 → IsStep (Add id lits hints groups) → IsLow k (Add id lits hints groups)
-    → IsStep (Add (behind b t id) lits (map (behind b t) hints) groups)
-low_addition b t k id lits hints groups low base few (number, small, limits, gs) (next, up, none) = (
+pub low_addition : (most b t k id : ℕ) (lits : Clause) (hints : List ℕ) (groups : List Group) → b ≤ t → b ≤ k → t + (k - b) + 1 < 2 ^ 48 → IsStepWithin most (Add id lits hints groups) → IsLow k (Add id lits hints groups)
+    → IsStepWithin most (Add (behind b t id) lits (map (behind b t) hints) groups)
+low_addition most b t k id lits hints groups low base few (number, small, limits, gs) (next, up, none) = (
   behind_number b t (k + 1) id low (omega arith) (omega arith) (omega arith) number,
   small,
   numbers_behind b t k hints low base (omega arith) up limits,
   gs,
 )
 
-pub low_deletion : (b t k : ℕ) (ids : List ℕ) → b ≤ t → b ≤ k → t + (k - b) + 1 < 2 ^ 48 → IsStep (Delete ids) → IsLow k (Delete ids) → IsStep (Delete (map (behind b t) ids))
-low_deletion b t k ids low base few limits up = numbers_behind b t k ids low base (omega arith) up limits
+pub low_deletion : (most b t k : ℕ) (ids : List ℕ) → b ≤ t → b ≤ k → t + (k - b) + 1 < 2 ^ 48 → IsStepWithin most (Delete ids) → IsLow k (Delete ids) → IsStepWithin most (Delete (map (behind b t) ids))
+low_deletion most b t k ids low base few limits up = numbers_behind b t k ids low base (omega arith) up limits
 
 -- ---- the next line
-read_steps : (pieces : List (List ℕ)) (steps : List Step) → AllRead pieces steps → steps_of pieces ≡ steps
+read_steps : (pieces : List (List ℕ)) (steps : List Step) → AllReadWithin 199999999 pieces steps → steps_of pieces ≡ steps
 read_steps [] steps h = absurd h
 read_steps (last ∷ []) steps h = sym h.1
 read_steps (piece ∷ next ∷ pieces) [] h = absurd h
 read_steps (piece ∷ next ∷ pieces) (step ∷ steps) h = ap (λ (r : Result Step TextFault). with_step r (steps_of (next ∷ pieces))) h.0 ∙ ap (λ (ss : List Step). step ∷ ss) (read_steps (next ∷ pieces) steps h.1)
 
-pub spelled_in : (text : List ℕ) (steps : List Step) → LineSpells text steps → steps_in text ≡ steps
+pub spelled_in : (most : ℕ) → most ≤ 199999999 → (text : List ℕ) (steps : List Step) → LineSpellsWithin most text steps → steps_in text ≡ steps
 unfolding steps_in
-spelled_in text steps h = read_steps (Words.lines text) steps (spelled_read text steps h)
+spelled_in most few text steps h = read_steps (Words.lines text) steps (spelled_read_within 199999999 (omega arith) text steps (spells_more most 199999999 few text steps h))
 
 -- what stands after a line of a text whose lines spell steps
-pub record IsNext (text line rest : List ℕ) : Type 0 where
+pub record IsNext (most : ℕ) (text line rest : List ℕ) : Type 0 where
   pub step : Step
-  pub spells : SpellsStep line step
+  pub spells : SpellsStepWithin most line step
   pub steps : steps_in text ≡ step ∷ steps_in rest
-  pub spelled : LineSpells rest (steps_in rest)
+  pub spelled : LineSpellsWithin most rest (steps_in rest)
 
-pub next_line : (text line rest : List ℕ) → IsCut text line rest → LineSpells text (steps_in text) → IsNext text line rest
-next_line text line rest cut h = at (steps_in text) refl h
+pub next_line : (most : ℕ) → most ≤ 199999999 → (text line rest : List ℕ) → IsCut text line rest → LineSpellsWithin most text (steps_in text) → IsNext most text line rest
+next_line most few text line rest cut h = at (steps_in text) refl h
   where
-    at : (steps : List Step) → steps_in text ≡ steps → LineSpells text steps → IsNext text line rest
+    at : (steps : List Step) → steps_in text ≡ steps → LineSpellsWithin most text steps → IsNext most text line rest
     at [] e spelled =
         let a : length (line ++ 10 ∷ rest) ≡ length {A = ℕ} [] = ap length (sym cut.0 ∙ spelled) in
         let b = length-append line (10 ∷ rest) in
         absurd (omega arith)
     at (step ∷ steps) e (own, later, splits, one, spells, more) =
         let same = cut_same line own rest later cut.1 one (sym cut.0 ∙ splits) in
-        let left : LineSpells rest steps = subst (λ (t : List ℕ). LineSpells t steps) (sym same.1) more in
-        let known : steps_in rest ≡ steps = spelled_in rest steps left in
+        let left : LineSpellsWithin most rest steps = subst (λ (t : List ℕ). LineSpellsWithin most t steps) (sym same.1) more in
+        let known : steps_in rest ≡ steps = spelled_in most few rest steps left in
         record {
           step = step;
-          spells = subst (λ (l : List ℕ). SpellsStep l step) (sym same.0) spells;
+          spells = subst (λ (l : List ℕ). SpellsStepWithin most l step) (sym same.0) spells;
           steps = e ∙ ap (λ (ss : List Step). step ∷ ss) (sym known);
-          spelled = subst (LineSpells rest) (sym known) left;
+          spelled = subst (LineSpellsWithin most rest) (sym known) left;
         }
 
 -- and where no LF is left, there is no step
-pub no_line : (text : List ℕ) → IsOpen text → LineSpells text (steps_in text) → steps_in text ≡ []
-no_line text none h = at (steps_in text) refl h
+pub no_line : (most : ℕ) (text : List ℕ) → IsOpen text → LineSpellsWithin most text (steps_in text) → steps_in text ≡ []
+no_line most text none h = at (steps_in text) refl h
   where
-    at : (steps : List Step) → steps_in text ≡ steps → LineSpells text steps → steps_in text ≡ []
+    at : (steps : List Step) → steps_in text ≡ steps → LineSpellsWithin most text steps → steps_in text ≡ []
     at [] e spelled = e
     at (step ∷ steps) e (own, later, splits, one, spells, more) =
         absurd (none_cut text own later none splits)
 
 -- a line spells one step
-pub read_same : (line : List ℕ) (one two : Step) → SpellsStep line one → SpellsStep line two → one ≡ two
-read_same line one two h g = let e : Ok one ≡ Ok two = sym (spelled_found line one h) ∙ spelled_found line two g in cc
+pub read_same : (most : ℕ) → most < 2 ^ 48 → (line : List ℕ) (one two : Step) → SpellsStepWithin most line one → SpellsStepWithin most line two → one ≡ two
+read_same most few line one two h g = let e : Ok one ≡ Ok two = sym (spelled_found_within most line one few h) ∙ spelled_found_within most line two few g in cc
 
 -- ---- one line more
 -- a longer text is too long as well
@@ -152,13 +152,13 @@ line_some out top step =
 
 -- the last step so far is that of the last line, or there is none yet
 abbrev pub LastIs : Bool → List ℕ → Step → Step → Step → List Step → Type 0
-LastIs some line now before end rest = MatchBool some ((step : Step) × SpellsStep line step × (last_of step rest ≡ end)) ((now ≡ before) × (last_of before rest ≡ end))
+LastIs some line now before end rest = MatchBool some ((step : Step) × SpellsStepWithin 199999999 line step × (last_of step rest ≡ end)) ((now ≡ before) × (last_of before rest ≡ end))
 
 pub last_at : (some : Bool) (line : List ℕ) (now before end step : Step) (rest later : List Step) → rest ≡ step ∷ later → LastIs some line now before end rest → last_of step later ≡ end
 last_at false line now before end step rest later e (same, h) = ap (last_of before) (sym e) ∙ h
 last_at true line now before end step rest later e (own, spells, h) = ap (last_of own) (sym e) ∙ h
 
 pub last_read : (some : Bool) (line : List ℕ) (now before new end : Step) (rest : List Step) → rest ≡ []
-    → MatchBool some (SpellsStep line new) (new ≡ now) → LastIs some line now before end rest → new ≡ end
+    → MatchBool some (SpellsStepWithin 199999999 line new) (new ≡ now) → LastIs some line now before end rest → new ≡ end
 last_read false line now before new end rest e is (same, h) = is ∙ same ∙ ap (last_of before) (sym e) ∙ h
-last_read true line now before new end rest e is (own, spells, h) = read_same line new own is spells ∙ ap (last_of own) (sym e) ∙ h
+last_read true line now before new end rest e is (own, spells, h) = read_same 199999999 (omega arith) line new own is spells ∙ ap (last_of own) (sym e) ∙ h

@@ -6,7 +6,7 @@ use Rattle.std.proofs.lemmas.List.Elements.{All-nil, All-cons, All-contains, Con
 use Rattle.dimacs.specs.logic.Literal.{Literal, Clause, IsWithin, negation, has}
 use Rattle.dimacs.proofs.Members.{Contains-head}
 use Rattle.icnf.specs.Leaves.{Cube}
-use Rattle.lrat_text.specs.Grammar.{LineSpells, IsStep, IsClauseNumber}
+use Rattle.lrat_text.specs.Grammar.{LineSpellsWithin, IsStepWithin, IsClauseNumber}
 use Rattle.lrat_text.specs.declared.step.Step.{Step}
 use Rattle.lrat_text.specs.declared.step.Step.TheVariants.{Add}
 use Rattle.proof_join.specs.RenumberedSteps.{last_clause}
@@ -31,12 +31,12 @@ ends_clause before steps h =
     ap (λ (ss : List Step). clause_of (last_of before ss)) h.splits ∙ ap clause_of (last_of_end before h.front step)
     ∙ sym (ap (last_clause []) h.splits ∙ last_is [] h.front h.id h.clause h.hints h.groups)
 
-pub ends_small : (text : List ℕ) (steps : List Step) → LineSpells text steps → EndsByAddition steps → All (IsWithin 2000000) (last_clause [] steps)
-ends_small text steps spelled h =
+pub ends_small : (most : ℕ) (text : List ℕ) (steps : List Step) → LineSpellsWithin most text steps → EndsByAddition steps → All (IsWithin most) (last_clause [] steps)
+ends_small most text steps spelled h =
     let step : Step = Add h.id h.clause h.hints h.groups in
     let inside : Contains steps step = subst (λ (ss : List Step). Contains ss step) (sym h.splits) (Contains-append_right h.front (step ∷ []) step (Contains-head step [])) in
-    let limits : IsStep step = All-contains IsStep steps step (spelled_limits text steps spelled) inside in
-    subst (All (IsWithin 2000000)) (sym (ap (last_clause []) h.splits ∙ last_is [] h.front h.id h.clause h.hints h.groups)) limits.1
+    let limits : IsStepWithin most step = All-contains (IsStepWithin most) steps step (spelled_limits most text steps spelled) inside in
+    subst (All (IsWithin most)) (sym (ap (last_clause []) h.splits ∙ last_is [] h.front h.id h.clause h.hints h.groups)) limits.1
 
 pub two_numbers : (a b : ℕ) → IsClauseNumber a → IsClauseNumber b → All IsClauseNumber (a ∷ b ∷ [])
 two_numbers a b h g = All-cons IsClauseNumber a (b ∷ []) h (All-cons IsClauseNumber b [] g (All-nil IsClauseNumber))

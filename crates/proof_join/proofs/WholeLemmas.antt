@@ -1,5 +1,5 @@
 -- The fragments of a tree's leaves, and the whole text.
-use Rattle.std.proofs.Common.{◌≡◌, ℕ, zero, suc, ◌+◌, ◌^◌, ◌<◌, ◌≤◌, List, [], ◌∷◌, ◌++◌, length, take, get_or, drop, Err, refl, sym, ◌∙◌, ap, subst, arith, append_assoc, length-append}
+use Rattle.std.proofs.Common.{◌≡◌, ℕ, max, zero, suc, ◌+◌, ◌^◌, ◌<◌, ◌≤◌, List, [], ◌∷◌, ◌++◌, length, take, get_or, drop, Err, refl, sym, ◌∙◌, ap, subst, arith, append_assoc, length-append}
 use Rattle.std.specs.Prelude.{IsSome}
 use Rattle.std.specs.List.{All, Contains}
 use Rattle.std.specs.FinMap.{get}
@@ -10,8 +10,8 @@ use Rattle.dimacs.specs.logic.ClauseMap.{ClauseMap, map_of, live_in}
 use Rattle.dimacs.specs.logic.Cnf.{Cnf, IsFormula}
 use Rattle.dimacs.specs.logic.Literal.{Literal, IsWithin}
 use Rattle.icnf.specs.Leaves.{Cube, Leaves}
-use Rattle.lrat_text.specs.Grammar.{LineSpells}
-use Rattle.lrat_text.specs.Log.{after_step, top_after, IsLogStep, AreLogSteps, Closes}
+use Rattle.lrat_text.specs.Grammar.{LineSpellsWithin}
+use Rattle.lrat_text.specs.Log.{after_step, top_after, IsLogStep, AreLogSteps, Closes, log_top}
 use Rattle.lrat_text.specs.WrittenLine.{line_of}
 use Rattle.lrat_text.specs.declared.step.Step.{Step}
 use Rattle.lrat_text.specs.declared.step.Step.TheVariants.{Add, Delete}
@@ -30,6 +30,7 @@ use Rattle.proof_join.proofs.RupLemmas.{hint_live}
 use Rattle.proof_join.proofs.ShapeLemmas.{joined_some, joined_once}
 use Rattle.proof_join.proofs.StepLemmas.{spelled_in}
 use Rattle.proof_join.proofs.TextLemmas.{step_between}
+use Rattle.lrat_text.proofs.LineLemmas.{spells_more}
 use Rattle.lrat_text.proofs.RunLemmas.{text_append}
 use Rattle.proof_join.proofs.TreeLemmas.{ends}
 
@@ -47,27 +48,28 @@ steps_low : (m : ℕ) (M : ClauseMap) (top : ℕ) (steps : List Step) → AreLog
 steps_low m M top [] h between = tt
 steps_low m M top (step ∷ steps) h between = (step_low m M top step h.0 between, steps_low m (after_step M step) (top_after top step) steps h.1 (step_between m M top step h.0 between))
 
-pub closes_fragment : (B : Cnf) (q : Cube) (text : List ℕ) → Closes B q text → IsFragment (length B.clauses) text
-closes_fragment B q text (steps, spelled, log, (front, last, splits, n)) =
-    let e : steps_in text ≡ steps = spelled_in text steps spelled in
+pub closes_fragment : (B : Cnf) (q : Cube) (text : List ℕ) → B.vars ≤ 199999999 → Closes B q text → IsFragment (length B.clauses) text
+closes_fragment B q text low (steps, spelled, log, (front, last, splits, n)) =
+    let most : max 2000000 B.vars ≤ 199999999 = omega arith in
+    let e : steps_in text ≡ steps = spelled_in (log_top B) most text steps spelled in
     let z = ends q last n in
     record {
       own = record {
-        spelled = subst (LineSpells text) (sym e) spelled;
+        spelled = subst (LineSpellsWithin 199999999 text) (sym e) (spells_more (log_top B) 199999999 most text steps spelled);
         low = subst (AreLow (length B.clauses)) (sym e) (steps_low (length B.clauses) (map_of B) (length B.clauses) steps log (between_formula B));
       };
       ends = record { front = front; id = z.0; clause = z.1; hints = z.2; groups = z.3; splits = e ∙ splits ∙ ap (λ (s : Step). front ++ s ∷ []) z.4 };
     }
 
-pub all_fragments : (B : Cnf) (leaves : List Cube) (texts : List (List ℕ)) → AllClose B leaves texts → All (IsFragment (length B.clauses)) texts
-all_fragments B [] [] h = All-nil (IsFragment (length B.clauses))
-all_fragments B [] (text ∷ texts) h = absurd h
-all_fragments B (q ∷ leaves) [] h = absurd h
-all_fragments B (q ∷ leaves) (text ∷ texts) h = All-cons (IsFragment (length B.clauses)) text texts (closes_fragment B q text h.0) (all_fragments B leaves texts h.1)
+pub all_fragments : (B : Cnf) → B.vars ≤ 199999999 → (leaves : List Cube) (texts : List (List ℕ)) → AllClose B leaves texts → All (IsFragment (length B.clauses)) texts
+all_fragments B low [] [] h = All-nil (IsFragment (length B.clauses))
+all_fragments B low [] (text ∷ texts) h = absurd h
+all_fragments B low (q ∷ leaves) [] h = absurd h
+all_fragments B low (q ∷ leaves) (text ∷ texts) h = All-cons (IsFragment (length B.clauses)) text texts (closes_fragment B q text low h.0) (all_fragments B low leaves texts h.1)
 
 -- a base over which something closes has a clause
 pub closes_some : (B : Cnf) (q : Cube) (text : List ℕ) → Closes B q text → 1 ≤ length B.clauses
-closes_some B q text (steps, spelled, log, ends_at) = some_clause B q (leaf steps) (log, ends_at, spelled_limits text steps spelled)
+closes_some B q text (steps, spelled, log, ends_at) = some_clause B q (leaf steps) (log, ends_at, spelled_limits (log_top B) text steps spelled)
 
 -- each fragment closes the cube at its place
 pub close_at : (B : Cnf) (leaves : List Cube) (texts : List (List ℕ)) → AllClose B leaves texts → (i : ℕ) → i < length leaves → Closes B (get_or leaves i []) (get_or texts i [])
@@ -86,7 +88,7 @@ pub each_spelled : (texts : List (List ℕ)) (steps : List (List Step)) → AreS
 each_spelled [] [] h = refl
 each_spelled [] (s ∷ steps) h = absurd h
 each_spelled (text ∷ texts) [] h = absurd h
-each_spelled (text ∷ texts) (s ∷ steps) h = ap (λ (x : List Step). x ∷ steps_each texts) (spelled_in text s h.0) ∙ ap (λ (xs : List (List Step)). s ∷ xs) (each_spelled texts steps h.1)
+each_spelled (text ∷ texts) (s ∷ steps) h = ap (λ (x : List Step). x ∷ steps_each texts) (spelled_in 199999999 (omega arith) text s h.0) ∙ ap (λ (xs : List (List Step)). s ∷ xs) (each_spelled texts steps h.1)
 
 -- ---- one unit more
 pub units_push : (top : ℕ) (units : List Literal) (l : Literal) → unit_steps top (units ++ l ∷ []) ≡ unit_steps top units ++ Add (top + length units + 1) (l ∷ []) [] [] ∷ []
@@ -126,20 +128,20 @@ units_front out top n units =
     ∙ ap (λ (xs : List ℕ). out ++ xs) (sym (text_append top (unit_steps top (take n units)) (unit_steps (top + length (take n units)) (drop n units)))
     ∙ ap (text_of top) (sym (unit_steps_append top (take n units) (drop n units)) ∙ ap (unit_steps top) (take-append-drop n units)))
 
-pub pure_small : (F : Cnf) → F.vars ≤ 1000000 → All (IsWithin 2000000) (pure_literals F)
-pure_small F few = All-weaker (IsWithin F.vars) (IsWithin 2000000) (λ l h. let b = h.1 in (h.0, omega arith)) (pure_literals F) (pure_within F)
+pub pure_small : (F : Cnf) → F.vars ≤ 99999999 → All (IsWithin 199999999) (pure_literals F)
+pure_small F few = All-weaker (IsWithin F.vars) (IsWithin 199999999) (λ l h. let b = h.1 in (h.0, omega arith)) (pure_literals F) (pure_within F)
 
 pub too_long : (A : Type 0) (fault : JoinFault) (new text : List ℕ) → fault ≡ TooLong → Writes {A = A} (Err fault) new text → 2 ^ 32 ≤ length text
 too_long A TooLong new text e h = h
 too_long A NoMemory new text e h = absurd cc
 
 -- ---- all together
-module _ (F B : Cnf) (lines : List Step) (leaves : List Cube) (texts : List (List ℕ)) (tree : Leaves [] leaves) (close : AllClose B leaves texts) where
+module _ (F B : Cnf) (lines : List Step) (leaves : List Cube) (texts : List (List ℕ)) (tree : Leaves [] leaves) (close : AllClose B leaves texts) (low : B.vars ≤ 199999999) where
   abbrev pub whole : (text : List ℕ) × Joined F lines leaves texts text
-  whole = joined_some F B lines leaves texts tree close
+  whole = joined_some F B lines leaves texts low tree close
 
   pub base_some : 1 ≤ length B.clauses
-  base_some = some_clause B [] whole.1.tree (tree_closed B whole.1.tree leaves texts whole.1.free whole.1.leaves_are close whole.1.spelled)
+  base_some = some_clause B [] whole.1.tree (tree_closed B low whole.1.tree leaves texts whole.1.free whole.1.leaves_are close whole.1.spelled)
 
   pub whole_is : IsPreamble F B lines → (base : ℕ) → base ≡ length B.clauses
       → text_of (length F.clauses) lines ++ text_of base (part base [] base whole.1.tree).steps ≡ whole.0
@@ -159,7 +161,7 @@ module _ (F B : Cnf) (lines : List Step) (leaves : List Cube) (texts : List (Lis
   whole_joined text e = subst (Joined F lines leaves texts) (sym e) whole.1
 
   pub whole_accepts : IsPreamble F B lines → (text : List ℕ) → IsFormula F → text ≡ whole.0 → length text < 2 ^ 32 → Accepts F text
-  whole_accepts lead text limits e short = joined_accepts F B lines leaves texts text limits.clauses lead close (whole_joined text e) short
+  whole_accepts lead text limits e short = joined_accepts F B lines leaves texts text limits.vars limits.clauses lead close (whole_joined text e) short
 
   -- what is too long before the end is too long at the end
   pub whole_long : (short more text : List ℕ) → short ++ more ≡ whole.0 → 2 ^ 32 ≤ length short → Joined F lines leaves texts text → 2 ^ 32 ≤ length text

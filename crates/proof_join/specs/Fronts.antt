@@ -19,32 +19,34 @@ pub record Branch : Type 0 where
   pub id : ℕ
   pub clause : Clause
 
--- the value of one in memory
+-- the value of a finished subtree of the code
 abbrev pub branch_of : Finished → Branch
 branch_of b = record { depth = b.depth; id = b.subtree.id; clause = b.subtree.clause.items }
 
--- those on the stack, the top first
+-- the finished subtrees on a stack of the code, the top first
 unfoldable pub branches : List Finished → List Branch
 branches items = reverse (map branch_of items)
 
--- the text so far, the number of its last addition, and the stack of finished subtrees, the top first
+-- the standing of a join: the text so far, the number of its last addition, and the stack of finished subtrees, the top first
 pub record Standing : Type 0 where
   pub text : List ℕ
   pub top : ℕ
   pub finished : List Branch
 
--- the same with how many clauses the base has, and how many leaves are appended
+-- the value of a joiner: the number of the base's clauses, the number of leaves that were appended, and the standing
 pub record Front : Type 0 where
   pub base : ℕ
   pub count : ℕ
   pub standing : Standing
 
--- a finished subtree at this depth is pushed
+-- `waiting depth text top i C finished`: the standing after a finished subtree at this depth, with
+-- clause C under the number i, is pushed on the stack `finished`
 abbrev pub waiting : ℕ → List ℕ → ℕ → ℕ → Clause → List Branch → Standing
 waiting depth text top i C finished = record { text = text; top = top; finished = record { depth = depth; id = i; clause = C } ∷ finished }
 
--- a subtree at this depth of the cube q is finished, with clause C under i: if its left sibling is on top of the stack, their fork is
--- finished too, and so on upward; else the subtree is pushed
+-- `settled q depth text top i C finished`: the standing after a subtree at this depth of the cube q
+-- is finished, with clause C under the number i: if its left sibling is on top of the stack
+-- `finished`, their fork is finished too, and so on upward; else the subtree is pushed
 abbrev pub settled : Cube → ℕ → List ℕ → ℕ → ℕ → Clause → List Branch → Standing
 settled q zero text top i C finished = waiting zero text top i C finished
 settled q (suc d) text top i C [] = waiting (suc d) text top i C []
@@ -53,7 +55,7 @@ settled q (suc d) text top i C (left ∷ finished) =
     if nat_eq left.depth (suc d) then settled q d (text ++ text_of top own.steps) own.top own.id own.clause finished
     else waiting (suc d) text top i C (left ∷ finished)
 
--- a leaf is appended, and each fork that it finishes
+-- the joiner's value after a leaf is appended, with cube q and these steps, and each fork that it finishes
 unfoldable pub appended : Front → Cube → List Step → Front
 appended f q steps =
     let s : Standing = f.standing in
@@ -64,19 +66,19 @@ appended f q steps =
       standing = settled q (length q) (s.text ++ text_of s.top p.steps) p.top p.id p.clause s.finished;
     }
 
--- leaves are appended one after the other
+-- the joiner's value after leaves are appended, one after the other
 abbrev pub appended_all : Front → List Cube → List (List Step) → Front
 appended_all f [] all = f
 appended_all f (q ∷ leaves) [] = f
 appended_all f (q ∷ leaves) (steps ∷ all) = appended_all (appended f q steps) leaves all
 
--- no leaf is appended: the preamble's lines
+-- the joiner's value before a leaf is appended: it has the preamble's lines
 abbrev pub preamble_front : Cnf → List Pair → Front
 preamble_front F pairs =
     let b : ℕ = length (base_with F pairs).clauses in
     record { base = b; count = 0; standing = record { text = text_of (length F.clauses) (preamble_steps F pairs); top = b; finished = [] } }
 
--- f is the state after the fragments of these leaves, the first ones of a tree, were appended
+-- f is the joiner's value after the fragments of these leaves, the first ones of a tree, were appended
 pub record IsFrontOf (F : Cnf) (pairs : List Pair) (leaves : List Cube) (texts : List (List ℕ)) (f : Front) : Type 0 where
   pub base : f.base ≡ length (base_with F pairs).clauses
   pub count : f.count ≡ length leaves

@@ -5,14 +5,15 @@ use Rattle.dimacs.specs.logic.Rat.{Group}
 use Rattle.lrat_text.specs.declared.step.Step.{Step}
 use Rattle.lrat_text.specs.declared.step.Step.TheVariants.{Add, Delete}
 
--- numbers up to b stay, and b + k becomes t + k
+-- the number of n after t instead of b: numbers up to b stay, and b + k becomes t + k
 abbrev pub behind : ℕ → ℕ → ℕ → ℕ
 behind b t n = if nat_le n b then n else n - b + t
 
--- a group, and a step, in which f n replaces each number n
+-- a RAT group in which f n replaces each number n
 abbrev pub renumbered_group : (ℕ → ℕ) → Group → Group
 renumbered_group f g = (f g.0, map f g.1)
 
+-- a step in which f n replaces each number n
 abbrev pub renumbered : (ℕ → ℕ) → Step → Step
 renumbered f (Add id lits hints groups) = Add (f id) lits (map f hints) (map (renumbered_group f) groups)
 renumbered f (Delete ids) = Delete (map f ids)

@@ -1,4 +1,4 @@
-//! The stack of finished subtrees that wait for their right sibling.
+//! The stack of finished subtrees, each of which waits for its right sibling.
 
 ghost use Rattle.std.specs.Prelude.{◌≡◌, ◌<◌, ◌∷◌, MatchBool, MatchOption, OnOk, IfErr};
 ghost use Rattle.proof_join.specs.Fronts.{branch_of, branches};
@@ -7,14 +7,15 @@ ghost use Rattle.proof_join.specs.inner.Fronts.{HasLeft};
 use crate::fault::JoinFault;
 use crate::subtree::Subtree;
 
-/// A finished subtree, and the length of the path to it.
+/// A finished subtree, and its depth: the length of the path to it.
 #[derive(Drop)]
 pub(crate) struct Finished {
     pub(crate) depth: usize,
     pub(crate) subtree: Subtree,
 }
 
-/// Whether the top of the stack is the left sibling of a subtree at this depth.
+/// Whether the top of the stack is the left sibling of a subtree at this depth: it has the same
+/// depth, and waits. The root, at depth 0, has no sibling.
 fn has_left(finished: &[Finished], depth: usize) -> bool
     ensures { MatchBool result (HasLeft depth (branches finished.now)) (¬ (HasLeft depth (branches finished.now))) }
 {
@@ -28,7 +29,7 @@ fn has_left(finished: &[Finished], depth: usize) -> bool
     finished[count - 1].depth == depth
 }
 
-/// Pops the left sibling of a subtree at this depth, if it is on top of the stack.
+/// Pops the left sibling of a subtree at this depth; None if it is not on top of the stack.
 pub(crate) fn take_left(finished: &mut Vec<Finished>, depth: usize) -> Option<Finished>
     ensures { MatchOption result
         ((finished.new.items ≡ finished.old.items) × ¬ (HasLeft depth (branches finished.old.items)))
@@ -40,7 +41,7 @@ pub(crate) fn take_left(finished: &mut Vec<Finished>, depth: usize) -> Option<Fi
     finished.pop()
 }
 
-/// Pushes a finished subtree.
+/// Pushes a finished subtree at this depth on the stack, on which it waits for its right sibling.
 pub(crate) fn put_finished(
     finished: &mut Vec<Finished>,
     depth: usize,

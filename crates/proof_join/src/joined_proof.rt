@@ -1,4 +1,4 @@
-//! Joins the fragments of all leaves of a tree in one call.
+//! The joined proof of a tree, made in one call.
 
 ghost use Rattle.std.specs.Prelude.{◌≡◌, ℕ, ◌^◌, ◌<◌, ◌≤◌, List, map, length, All, IfOk, IfErr};
 ghost use Rattle.cube_split.specs.Definitions.{IsPairOf, base_with};
@@ -37,14 +37,14 @@ pub fn join_packed(
     // The text is an accepted proof of the formula, without the preamble's clauses.
     ensures accepted { IfOk result (λ text. Accepts formula.now text) }
 {
-    let _ = tree.leaves(); // a model's invariant: at most 65,536 leaves
-    let _ = formula.vars(); // a model's invariant: the formula is within its limits
-    let _ = preamble.pairs(); // a model's invariant: at most 64 pairs
+    let _ = tree.leaves(); // for proofs: at most 65,536 leaves
+    let _ = formula.vars(); // for proofs: the formula is within its limits
+    let _ = preamble.pairs(); // for proofs: at most 64 pairs
     let joining = Joiner::begin(alloc, formula, preamble)?;
     joining.finish(formula, preamble, tree, fragments)
 }
 
-/// Packs each text.
+/// Packs each of these texts.
 fn packed(alloc: Global, texts: &[Vec<u8>]) -> Result<Vec<PackedText>, AllocError>
     ensures { IfOk result (λ all. all.items ≡ map (λ v. v.items) texts.now) }
 {
@@ -55,7 +55,8 @@ fn packed(alloc: Global, texts: &[Vec<u8>]) -> Result<Vec<PackedText>, AllocErro
     Ok(all)
 }
 
-/// Packs the fragments, joins them as [`join_packed`] does, and unpacks the text.
+/// Packs the fragments that close the leaves of a tree, joins them into one proof, and unpacks its
+/// text.
 ///
 /// It answers `TooLong` only if the text would have 2^32 bytes or more.
 pub fn join(

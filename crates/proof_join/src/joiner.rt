@@ -1,4 +1,4 @@
-//! Joins the fragments of a tree's leaves from left to right, each as soon as it is there.
+//! The joiner: it joins the fragments of a tree's leaves from left to right, each as soon as it is there.
 
 ghost use Rattle.std.specs.Prelude.{◌≡◌, ℕ, ◌+◌, ◌^◌, ◌<◌, ◌≤◌, [], List, length, take, slice_index_or, All, OnOk, IfOk, IfErr};
 ghost use Rattle.cube_split.specs.Definitions.{IsPairOf, base_with};
@@ -30,23 +30,26 @@ use packed_text::PackedText;
 use std::alloc::Global;
 use std::marker::Model;
 
-/// The text that is appended to, and the stack of finished subtrees.
+/// The writer of the joined text, and the stack of finished subtrees, while a leaf is appended.
 #[derive(Drop)]
 struct JoinState<'t> {
     writer: Writer<'t>,
+    /// The finished subtrees that wait for their right siblings, the last one on top.
     finished: Vec<Finished>,
 }
 
-/// The joined text of the first leaves of a tree: all lines that can be written before the next leaf's fragment is there.
+/// A joiner: it has the joined text of the first leaves of a tree, all lines that can be written before the next leaf's fragment is there.
 pub struct Joiner {
     alloc: Global,
-    // how many clauses the base has
+    /// The number of the base's clauses.
     base: u64,
-    // how many leaves are appended
+    /// The number of leaves that were appended.
     count: usize,
+    /// The joined text so far.
     text: PackedText,
-    // the number of its last addition
+    /// The number of the text's last addition.
     top: u64,
+    /// The finished subtrees that wait for their right siblings, the last one on top.
     finished: Vec<Finished>,
 }
 
@@ -75,8 +78,8 @@ impl Model for Joiner {
     ghost invariant = { λ j. IsOrderly (record { base = j.base; count = j.count; standing = record { text = j.text; top = j.top; finished = branches j.finished.items } }) };
 }
 
-/// Puts a subtree at a depth of the cube to the finished ones. If its left sibling is finished, their fork is written and is finished
-/// too, and so on upward.
+/// Finishes a subtree at a depth of the cube. If its left sibling is on top of the stack, the line
+/// of their fork is written, and the fork is finished in turn; else the subtree waits on the stack.
 fn settle(
     alloc: Global,
     growing: &mut JoinState<'_>,
@@ -85,7 +88,7 @@ fn settle(
     subtree: Subtree,
 ) -> Result<(), JoinFault>
     requires inside { depth ≤ length cube.now }
-    requires subtree { (1 ≤ subtree.id) × (subtree.id ≤ growing.old.writer.top) × All (IsWithin 2000000) subtree.clause.items }
+    requires subtree { (1 ≤ subtree.id) × (subtree.id ≤ growing.old.writer.top) × All (IsWithin 199999999) subtree.clause.items }
     requires finished { All (IsUpTo growing.old.writer.top) (branches growing.old.finished.items) }
     requires few { (1 ≤ growing.old.writer.top) × (growing.old.writer.top ≤ 2 ^ 40 + length growing.old.writer.out) }
     requires short { length growing.old.writer.out < 2 ^ 32 }
@@ -111,12 +114,13 @@ fn settle(
     settle(alloc, growing, cube, above, fork)
 }
 
-/// The text with which the joined text may share blocks: the first fragment, since the joined text of one leaf is mostly a copy of it.
+/// The text with which the joined text shares equal blocks: the first fragment, since the joined text of one leaf is mostly a copy of it;
+/// None after the first leaf.
 fn first_of(count: usize, fragment: &PackedText) -> Option<&PackedText> {
     if count == 0 { Some(fragment) } else { None }
 }
 
-/// The fragment at a place.
+/// The fragment at index i. A function of its own, for its contract.
 fn text_at(fragments: &[PackedText], i: usize) -> &PackedText
     requires { i < length fragments.now }
     ensures { result.now ≡ slice_index_or fragments.now i [] }
@@ -125,7 +129,7 @@ fn text_at(fragments: &[PackedText], i: usize) -> &PackedText
 }
 
 impl Joiner {
-    /// The preamble's lines, with no leaf appended.
+    /// Writes the preamble's lines. No leaf is appended.
     ///
     /// It answers `TooLong` only if every text that begins with these lines would have 2^32 bytes or more.
     pub fn begin(alloc: Global, formula: &Formula, preamble: &Preamble) -> Result<Joiner, JoinFault>
@@ -148,17 +152,17 @@ impl Joiner {
         })
     }
 
-    /// How many leaves are appended.
+    /// The number of leaves that were appended.
     pub fn count(&self) -> usize
         ensures { result ≡ self.now.count }
     {
         self.count
     }
 
-    /// Appends the fragment of the next leaf, which closes its cube over the base, and the line of each fork that it finishes. On an error
-    /// the joiner is gone.
+    /// Appends the fragment of the next leaf, which closes its cube over the base, and the line of each fork that it finishes. After an
+    /// error the joiner is gone.
     pub fn advance(self, cube: &[Lit], fragment: &PackedText) -> Result<Joiner, JoinFault>
-        requires closes { (B : Cnf) × (length B.clauses ≡ self.base) × Closes B cube.now fragment.now }
+        requires closes { (B : Cnf) × (B.vars ≤ 199999999) × (length B.clauses ≡ self.base) × Closes B cube.now fragment.now }
         requires few { self.count < 2 ^ 32 }
         ensures appended { IfOk result (λ j. j ≡ appended self cube.now (steps_in fragment.now)) }
         ensures long { IfErr result (λ f. f ≡ JoinFault.TooLong → 2 ^ 32 ≤ length (appended self cube.now (steps_in fragment.now)).standing.text) }
@@ -196,7 +200,7 @@ impl Joiner {
         })
     }
 
-    /// Appends the leaves that are left, and answers the joined text.
+    /// Appends the fragments of the leaves that are left, and hands out the joined text.
     ///
     /// It answers `TooLong` only if the text would have 2^32 bytes or more.
     pub fn finish(
@@ -218,9 +222,9 @@ impl Joiner {
         // The text is an accepted proof of the formula, without the preamble's clauses.
         ensures accepted { IfOk result (λ text. Accepts formula.now text) }
     {
-        let _ = tree.leaves(); // a model's invariant: at most 65,536 leaves
-        let _ = formula.vars(); // a model's invariant: the formula is within its limits
-        let _ = preamble.pairs(); // a model's invariant: at most 64 pairs
+        let _ = tree.leaves(); // for proofs: at most 65,536 leaves
+        let _ = formula.vars(); // for proofs: the formula is within its limits
+        let _ = preamble.pairs(); // for proofs: at most 64 pairs
         let mut joining = self;
         for place in joining.count()..tree.leaves() {
             joining = joining.advance(tree.cube(place), text_at(fragments, place))?;
@@ -228,7 +232,7 @@ impl Joiner {
         Ok(joining.into_text())
     }
 
-    /// The text.
+    /// Hands out the text.
     fn into_text(self) -> PackedText
         ensures text { result ≡ self.standing.text }
         ensures short { length result < 2 ^ 32 }

@@ -1,7 +1,7 @@
-//! Copies the lines of a fragment under other numbers.
+//! The lines of a fragment, copied under other numbers.
 
 ghost use Rattle.std.specs.Prelude.{◌≡◌, ◌≢◌, ◌+◌, ◌-◌, ◌^◌, ◌<◌, ◌≤◌, ◌++◌, codes, map, length, All, MatchBool, OnOk, IfOk};
-ghost use Rattle.lrat_text.specs.Grammar.{IsStep, IsClauseNumber, SpellsStep};
+ghost use Rattle.lrat_text.specs.Grammar.{IsStepWithin, IsClauseNumber, SpellsStepWithin};
 ghost use Rattle.lrat_text.specs.Log.{top_after};
 ghost use Rattle.lrat_text.specs.Steps.{step_of};
 ghost use Rattle.lrat_text.specs.WrittenLine.{line_of};
@@ -13,12 +13,18 @@ ghost use Rattle.proof_join.specs.inner.Steps.{IsLow, IsOwn, Writes, IsApart, Is
 
 use crate::fault::JoinFault;
 use crate::output::{Output, put_addition, put_copy, put_line};
-use lrat_text::{StepBuffer, StepRef, TextFault, canonical_id, read_line, read_without_literals};
+use lrat_text::{
+    StepBuffer, StepRef, TextFault, canonical_id_within, read_line_within,
+    read_without_literals_within,
+};
 use packed_text::{PackedLines, PackedText};
 use std::alloc::{AllocError, Global};
 use std::mem::swap;
 
-/// How a fragment's numbers are changed: those up to `base` stay, and `base` + k becomes `begun` + k.
+/// No fragment has a greater variable, since no base has.
+const MAX_VAR: u32 = 199_999_999;
+
+/// The change of a fragment's numbers: those up to `base` stay, and `base` + k becomes `begun` + k.
 #[derive(Clone, Copy)]
 pub(crate) struct Shift {
     pub(crate) base: u64,
@@ -26,14 +32,15 @@ pub(crate) struct Shift {
 }
 
 impl Shift {
-    /// Whether no number changes.
+    /// Whether the shift changes no number, as for the first leaf of a joined proof.
     fn is_none(self) -> bool
         ensures { MatchBool result (self.begun ≡ self.base) (self.begun ≢ self.base) }
     {
         self.begun == self.base
     }
 
-    /// The new number.
+    /// The shifted number: a clause of the base keeps its own, and a lemma's is raised by `begun -
+    /// base`.
     fn number(self, number: u64) -> u64
         requires number { number < 2 ^ 48 }
         requires begun { self.begun < 2 ^ 48 }
@@ -46,7 +53,7 @@ impl Shift {
         }
     }
 
-    /// Replaces what `out` has by the new numbers.
+    /// Overwrites `out` with these numbers, shifted, in their order.
     fn numbers(self, numbers: &[u64], out: &mut Vec<u64>) -> Result<(), AllocError>
         requires numbers { All (λ n. n < 2 ^ 48) numbers.now }
         requires begun { self.begun < 2 ^ 48 }
@@ -60,7 +67,7 @@ impl Shift {
     }
 }
 
-/// Buffers: for the step that is read of a line, and for its new numbers.
+/// The buffers of a copy: for the step of a line, and for its new numbers.
 pub(crate) struct Scratch {
     pub(crate) buffer: StepBuffer,
     pub(crate) numbers: Vec<u64>,
@@ -75,31 +82,32 @@ impl Drop for Scratch {
     }
 }
 
-/// A borrowed step of a fragment. If its literals were not read, `literals` is their text.
+/// A step of a fragment, borrowed from the buffer. If its literals were not read, `literals` is their text.
 #[derive(Clone, Copy)]
 struct Found<'a> {
     step: StepRef<'a>,
     literals: Option<&'a [u8]>,
 }
 
-/// Reads a line into the buffer. If the line is spelled as this program spells lines, its literals are not read, and their text is
-/// answered.
+/// Reads a line into the buffer. If the line is spelled exactly as this program writes lines, its
+/// literals are not parsed, since they do not change, and their text is returned; else None.
 fn read_apart<'a>(buffer: &mut StepBuffer, line: &'a [u8]) -> Result<Option<&'a [u8]>, TextFault>
-    requires spelled { (step : Step) × SpellsStep line.now step }
-    ensures { IfOk result (λ literals. (step : Step) → SpellsStep line.now step → IsHeld literals buffer.new step) }
+    requires spelled { (step : Step) × SpellsStepWithin 199999999 line.now step }
+    ensures { IfOk result (λ literals. (step : Step) → SpellsStepWithin 199999999 line.now step → IsHeld literals buffer.new step) }
 {
-    match read_without_literals(buffer, line)? {
+    match read_without_literals_within(buffer, line)? {
         Some(literals) => Ok(Some(literals)),
         None => {
-            read_line(buffer, line)?;
+            read_line_within(buffer, MAX_VAR, line)?;
             Ok(None)
         }
     }
 }
 
-/// Appends the line of a step.
+/// Appends the line of a step, with its literals copied as text if they were not read. The line of
+/// a deletion begins with `top`.
 fn put_found(out: &mut Output<'_>, top: u64, found: Found<'_>) -> Result<(), JoinFault>
-    requires limits { IsStep (step_of found.step) }
+    requires limits { IsStepWithin 199999999 (step_of found.step) }
     requires numbered { IsClauseNumber top }
     ensures { (step : Step) → IsHeld found.entry.literals (step_of found.entry.step) step → Writes result out.new (out.old ++ line_of top step) }
 {
@@ -109,14 +117,14 @@ fn put_found(out: &mut Output<'_>, top: u64, found: Found<'_>) -> Result<(), Joi
     }
 }
 
-/// Appends the line of an addition whose literals are given as text.
+/// Appends the line of a step whose literals were not read: they are copied as text.
 fn put_apart(
     out: &mut Output<'_>,
     top: u64,
     literals: &[u8],
     held: StepRef<'_>,
 ) -> Result<(), JoinFault>
-    requires limits { IsStep (step_of held) }
+    requires limits { IsStepWithin 199999999 (step_of held) }
     requires numbered { IsClauseNumber top }
     ensures { (step : Step) → IsApart literals.now (step_of held.entry) step → Writes result out.new (out.old ++ line_of top step) }
 {
@@ -131,7 +139,7 @@ fn put_apart(
     }
 }
 
-/// Appends a renumbered step of a fragment, and answers the number of the last addition.
+/// Appends the line of a step of a fragment under new numbers. Returns the number of the last addition so far, which was `top` before.
 fn put_renumbered(
     out: &mut Output<'_>,
     numbers: &mut Vec<u64>,
@@ -139,7 +147,7 @@ fn put_renumbered(
     top: u64,
     found: Found<'_>,
 ) -> Result<u64, JoinFault>
-    requires limits { IsStep (step_of found.step) }
+    requires limits { IsStepWithin 199999999 (step_of found.step) }
     requires low { IsLow (shift.base + (top - shift.begun)) (step_of found.step) }
     requires begun { (1 ≤ shift.base) × (shift.base ≤ shift.begun) × (shift.begun ≤ top) }
     requires top { top + 1 < 2 ^ 48 }
@@ -174,7 +182,7 @@ fn put_renumbered(
     }
 }
 
-/// Appends a renumbered line of a fragment, and answers the number of the last addition.
+/// Appends a line of a fragment under new numbers. Returns the number of the last addition so far, which was `top` before.
 ///
 /// The line of an addition that is spelled as this program spells lines is copied whole if no number changes, as in a run with one
 /// leaf. Else the text of its literals is copied, and only its number and hints are read.
@@ -185,15 +193,15 @@ fn put_fragment_line(
     top: u64,
     line: &[u8],
 ) -> Result<u64, JoinFault>
-    requires spelled { (step : Step) × SpellsStep line.now step }
-    requires low { (step : Step) → SpellsStep line.now step → IsLow (shift.base + (top - shift.begun)) step }
+    requires spelled { (step : Step) × SpellsStepWithin 199999999 line.now step }
+    requires low { (step : Step) → SpellsStepWithin 199999999 line.now step → IsLow (shift.base + (top - shift.begun)) step }
     requires begun { (1 ≤ shift.base) × (shift.base ≤ shift.begun) × (shift.begun ≤ top) }
     requires top { top + 1 < 2 ^ 48 }
-    ensures text { (step : Step) → SpellsStep line.now step → Writes result out.new (out.old ++ line_of top (renumbered (behind shift.base shift.begun) step)) }
-    ensures top { (step : Step) → SpellsStep line.now step → IfOk result (λ n. n ≡ top_after top (renumbered (behind shift.base shift.begun) step)) }
+    ensures text { (step : Step) → SpellsStepWithin 199999999 line.now step → Writes result out.new (out.old ++ line_of top (renumbered (behind shift.base shift.begun) step)) }
+    ensures top { (step : Step) → SpellsStepWithin 199999999 line.now step → IfOk result (λ n. n ≡ top_after top (renumbered (behind shift.base shift.begun) step)) }
 {
     if shift.is_none() {
-        if let Some(id) = canonical_id(line) {
+        if let Some(id) = canonical_id_within(line) {
             put_copy(out, line)?;
             return Ok(id);
         }
@@ -209,18 +217,21 @@ fn put_fragment_line(
     put_renumbered(out, &mut scratch.numbers, shift, top, found)
 }
 
-/// Reads the last line, if there is one, since it may have been copied without being read.
+/// Reads a fragment's last line into the buffer, for the clause that it adds: the line may have
+/// been copied as text, unread. `some` is false if the fragment has no line, and then nothing is
+/// read.
 fn read_last(buffer: &mut StepBuffer, some: bool, last: &[u8]) -> Result<(), TextFault>
-    ensures { OnOk result (MatchBool some (SpellsStep last.now buffer.new) (buffer.new ≡ buffer.old)) }
+    ensures { OnOk result (MatchBool some (SpellsStepWithin 199999999 last.now buffer.new) (buffer.new ≡ buffer.old)) }
 {
     if some {
-        read_line(buffer, last)
+        read_line_within(buffer, MAX_VAR, last)
     } else {
         Ok(())
     }
 }
 
-/// Appends a renumbered fragment, and answers the number of the last addition. After it the buffer has the last step.
+/// Appends the lines of a fragment under new numbers. Returns the number of the last addition. After this call the buffer has the
+/// fragment's last step.
 pub(crate) fn put_fragment(
     alloc: Global,
     out: &mut Output<'_>,

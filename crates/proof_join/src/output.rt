@@ -1,20 +1,20 @@
-//! The joined text, packed as it is written.
+//! The output of a join: the joined text, packed as it is written.
 
 ghost use Rattle.std.specs.Prelude.{◌≡◌, ℕ, ◌<◌, List, ◌++◌, codes, length};
 ghost use Rattle.dimacs.specs.logic.Literal.{Literal};
-ghost use Rattle.lrat_text.specs.Grammar.{IsStep, IsClauseNumber};
+ghost use Rattle.lrat_text.specs.Grammar.{IsStepWithin, IsClauseNumber};
 ghost use Rattle.lrat_text.specs.Steps.{step_of};
 ghost use Rattle.lrat_text.specs.WrittenLine.{line_of, literals_text};
 ghost use Rattle.lrat_text.specs.declared.step.Step.TheVariants as owned;
 ghost use Rattle.proof_join.specs.inner.Steps.{Writes};
 
 use crate::fault::JoinFault;
-use lrat_text::{Groups, StepRef, put_ref, put_with_literal_text};
+use lrat_text::{Groups, StepRef, put_ref_within, put_with_literal_text};
 use packed_text::PackedText;
 use std::alloc::Global;
 use std::marker::Model;
 
-/// The packed text so far. Blocks that are equal to those of `like` are shared with it: the joined text of a tree with one leaf is
+/// The joined text so far, packed. Blocks that are equal to those of `like` are shared with it: the joined text of a tree with one leaf is
 /// mostly a copy of the leaf's fragment.
 pub(crate) struct Output<'t> {
     text: PackedText,
@@ -41,7 +41,7 @@ impl<'t> Model for Output<'t> {
     ghost view = { λ o. o.text };
 }
 
-/// Appends bytes; `TooLong` if the text would have 2^32 bytes or more.
+/// Appends bytes to a text. It is a fault, `TooLong`, if the text then has 2^32 bytes or more.
 fn append(text: &mut PackedText, like: Option<&PackedText>, more: &[u8]) -> Result<(), JoinFault>
     ensures { Writes result text.new (text.old ++ more.now) }
 {
@@ -53,7 +53,8 @@ fn append(text: &mut PackedText, like: Option<&PackedText>, more: &[u8]) -> Resu
     limit(text)
 }
 
-/// `TooLong` if the text has 2^32 bytes or more.
+/// Tests that the joined text has fewer than 2^32 bytes, as frames tell the length of a proof in 32
+/// bits; `TooLong` else.
 fn limit(text: &PackedText) -> Result<(), JoinFault>
     ensures { Writes result text.now text.now }
 {
@@ -79,7 +80,7 @@ impl<'t> Output<'t> {
         }
     }
 
-    /// The text.
+    /// Hands out the text.
     pub(crate) fn into_text(self) -> PackedText
         ensures { result ≡ self.entry }
     {
@@ -92,18 +93,18 @@ impl<'t> Output<'t> {
     }
 }
 
-/// Appends a step's line.
+/// Appends the line of a step. The line of a deletion begins with `top`.
 pub(crate) fn put_line(out: &mut Output<'_>, top: u64, step: StepRef<'_>) -> Result<(), JoinFault>
-    requires limits { IsStep (step_of step) }
+    requires limits { IsStepWithin 199999999 (step_of step) }
     requires numbered { IsClauseNumber top }
     ensures { Writes result out.new (out.old ++ line_of top (step_of step.entry)) }
 {
     out.line.clear();
-    put_ref(step, top, &mut out.line)?;
+    put_ref_within(step, top, &mut out.line)?;
     append(&mut out.text, out.like, &out.line)
 }
 
-/// Appends the line of an addition whose literals are given as text.
+/// Appends the line of an addition under `id` whose literals are given as text.
 pub(crate) fn put_addition(
     out: &mut Output<'_>,
     id: u64,
@@ -118,7 +119,7 @@ pub(crate) fn put_addition(
     append(&mut out.text, out.like, &out.line)
 }
 
-/// Appends a copy of a line.
+/// Appends a line that needs no change, and a newline.
 pub(crate) fn put_copy(out: &mut Output<'_>, line: &[u8]) -> Result<(), JoinFault>
     ensures { Writes result out.new (out.old ++ (line.now ++ codes "\n")) }
 {

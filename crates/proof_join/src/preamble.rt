@@ -1,4 +1,4 @@
-//! The preamble's lines: unit clauses, and definitions.
+//! The lines of a preamble: unit clauses, and definitions.
 
 ghost use Rattle.std.specs.Prelude.{◌≡◌, ◌+◌, ◌*◌, ◌^◌, ◌<◌, ◌≤◌, ◌++◌, length, All, IfOk};
 ghost use Rattle.cube_split.specs.Definitions.{IsPairOf, base_with};
@@ -16,10 +16,10 @@ use dimacs::{Formula, Lit, Var};
 use lrat_text::{Groups, StepRef};
 use std::alloc::Global;
 
-/// Appends the unit clauses of a preamble under the numbers after `top`, and answers the last number.
+/// Appends the additions of a preamble's unit clauses under the numbers after `top`. Returns the last number.
 fn put_units(alloc: Global, out: &mut Output<'_>, top: u64, units: &[Lit]) -> Result<u64, JoinFault>
-    requires few { (top ≤ 4000000) × (length units.now ≤ 1000000) }
-    requires within { All (IsWithin 2000000) units.now }
+    requires few { (top ≤ 99999999) × (length units.now ≤ 99999999) }
+    requires within { All (IsWithin 199999999) units.now }
     requires short { length out.old < 2 ^ 32 }
     ensures text { Writes result out.new (out.old ++ text_of top (unit_steps top units.now)) }
     ensures top { IfOk result (λ n. n ≡ top + length units.now) }
@@ -48,10 +48,10 @@ fn put_definition(
     variable: Var,
     pair: Pair,
 ) -> Result<(), JoinFault>
-    requires few { top ≤ 6000000 }
-    requires variable { (0 < variable) × (variable ≤ 2000000) }
-    requires first { IsWithin 2000000 pair.first }
-    requires second { IsWithin 2000000 pair.second }
+    requires few { top ≤ 200000190 }
+    requires variable { (0 < variable) × (variable ≤ 199999999) }
+    requires first { IsWithin 199999999 pair.first }
+    requires second { IsWithin 199999999 pair.second }
     ensures { Writes result out.new (out.old ++ text_of top (definition_steps top variable pair)) }
 {
     let defined = Lit::positive(variable);
@@ -81,7 +81,8 @@ fn put_definition(
     put_line(out, top + 3, other)
 }
 
-/// Appends the lines that define the variables after `vars`, one for each pair, under the numbers after `top`, and answers the last number.
+/// Appends the lines that define the variables after `vars`, one variable for each pair, under the numbers after `top`. Returns the last
+/// number.
 fn put_definitions(
     alloc: Global,
     out: &mut Output<'_>,
@@ -89,7 +90,7 @@ fn put_definitions(
     vars: u32,
     pairs: &[Pair],
 ) -> Result<u64, JoinFault>
-    requires few { (top ≤ 5000000) × (vars ≤ 1000000) × (length pairs.now ≤ 64) }
+    requires few { (top ≤ 199999998) × (vars ≤ 99999999) × (length pairs.now ≤ 64) }
     requires within { All (IsPairOf vars) pairs.now }
     requires short { length out.old < 2 ^ 32 }
     ensures text { Writes result out.new (out.old ++ text_of top (all_steps top (vars + 1) pairs.now)) }
@@ -105,7 +106,7 @@ fn put_definitions(
     Ok(last)
 }
 
-/// Appends a preamble's lines, and answers the last number, which is the formula's number of clauses if there is no line.
+/// Appends the lines of a preamble. Returns the last number, which is the number of the formula's clauses if there is no line.
 pub(crate) fn put_preamble(
     alloc: Global,
     out: &mut Output<'_>,
@@ -117,7 +118,7 @@ pub(crate) fn put_preamble(
     requires short { length out.old < 2 ^ 32 }
     ensures text { Writes result out.new (out.old ++ text_of (length formula.now.clauses) (preamble_steps formula.now preamble.now.pairs)) }
     ensures top { IfOk result (λ n. n ≡ length (base_with formula.now preamble.now.pairs).clauses) }
-    ensures few { IfOk result (λ n. n ≤ 6000000) }
+    ensures few { IfOk result (λ n. n ≤ 200000190) }
 {
     let vars = formula.vars();
     let top = put_units(alloc, out, formula.len() as u64, preamble.units())?;

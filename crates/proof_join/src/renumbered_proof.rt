@@ -1,4 +1,4 @@
-//! Renumbers a proof for a formula to which clauses were added at its end.
+//! The renumbering of a proof, for a formula to which clauses were added at its end.
 
 ghost use Rattle.std.specs.Prelude.{◌≡◌, ℕ, ◌+◌, ◌^◌, ◌<◌, ◌≤◌, [], ◌∷◌, ◌++◌, List, min, max, map, length, All, IfOk, MatchOption, MatchResult};
 ghost use Rattle.lrat_text.specs.Grammar.{SpellsStep, IsStep, IsClauseNumber, IsGroup};
@@ -12,19 +12,19 @@ ghost use Rattle.proof_join.specs.inner.RaisedLines.{IsPut, Unless};
 use lrat_text::{Groups, StepBuffer, StepRef, TextFault, cut_line, put_ref, read_line};
 use std::alloc::{AllocError, Global};
 
-/// 2^48: clause numbers are below.
+/// 2^48: clause numbers are below this.
 const CAP: u64 = 281_474_976_710_656;
 
-/// Why no text is answered.
+/// Why there is no renumbered text.
 #[derive(Clone, Copy)]
 enum Stop {
-    /// There is no such text.
+    /// By the definition there is no such text.
     NoText,
     /// Memory was refused.
     NoMemory,
 }
 
-/// How numbers are raised: those above `above` by `by`.
+/// The change of numbers: those above `above` are raised by `by`.
 #[derive(Clone, Copy)]
 struct Raise {
     above: u64,
@@ -32,7 +32,8 @@ struct Raise {
 }
 
 impl Raise {
-    /// The raised number; None if it is no clause number.
+    /// The raised number: those above the old formula's clauses are raised by the number of added
+    /// clauses. None if it is no clause number, 2^48 or more.
     fn number(self, number: u64) -> Option<u64>
         requires { IsClauseNumber number }
         ensures { MatchOption result (2 ^ 48 ≤ raised self.above self.by number) (λ n. (n ≡ raised self.above self.by number) × IsClauseNumber n) }
@@ -46,7 +47,7 @@ impl Raise {
         Some(number + self.by)
     }
 
-    /// Replaces what `out` has by the raised numbers.
+    /// Overwrites `out` with the raised numbers of these; `NoText` if one of them is no clause number.
     fn numbers(self, numbers: &[u64], out: &mut Vec<u64>) -> Result<(), Stop>
         requires { All IsClauseNumber numbers.now }
         ensures { MatchResult result
@@ -66,7 +67,7 @@ impl Raise {
         Ok(())
     }
 
-    /// Replaces what `out` has by these groups under raised numbers. `hints` is a buffer.
+    /// Overwrites `out` with these groups under raised numbers; `NoText` if one of them is no clause number. `hints` is a buffer.
     fn groups(self, groups: &Groups, hints: &mut Vec<u64>, out: &mut Groups) -> Result<(), Stop>
         requires { All IsGroup groups.now }
         ensures { MatchResult result
@@ -81,7 +82,7 @@ impl Raise {
         Ok(())
     }
 
-    /// Appends a group under raised numbers.
+    /// Appends a group under raised numbers to `out`; `NoText` if one of them is no clause number. `hints` is a buffer.
     fn group(
         self,
         candidate: u64,
@@ -105,17 +106,23 @@ impl Raise {
     }
 }
 
-/// The text so far, the highest number added so far (2^48 if it is greater), and buffers for the raised numbers of a line.
+/// A text that is rewritten under raised numbers.
 #[derive(Drop)]
 struct Rewriter {
+    /// The new text so far.
     out: Vec<u8>,
+    /// The highest number that was added so far, 2^48 if it is greater; at first the number of clauses of the new formula.
     top: u64,
+    /// A buffer for the raised numbers of a line.
     numbers: Vec<u64>,
+    /// A buffer for the raised hints of a group.
     hints: Vec<u64>,
+    /// A buffer for the raised groups of a line.
     groups: Groups,
 }
 
-/// Appends a line; `NoText` if the text would have 2^32 bytes or more.
+/// Appends the line of a step; `NoText` if the text then has 2^32 bytes or more. The line of a
+/// deletion begins with `top`.
 fn put_short(out: &mut Vec<u8>, top: u64, step: StepRef<'_>) -> Result<(), Stop>
     requires limits { IsStep (step_of step) }
     requires numbered { IsClauseNumber top }
@@ -133,7 +140,9 @@ fn put_short(out: &mut Vec<u8>, top: u64, step: StepRef<'_>) -> Result<(), Stop>
     Ok(())
 }
 
-/// Appends the line of a step under raised numbers.
+/// Appends the line of a step under raised numbers. A deletion's line begins with the highest
+/// number added so far, or with 1. `NoText` if a number reaches 2^48 (`CAP`), so that it is no
+/// clause number, or if the text becomes too long.
 fn put_raised(rewriter: &mut Rewriter, raise: Raise, step: StepRef<'_>) -> Result<(), Stop>
     requires { IsStep (step_of step) }
     ensures { (high : ℕ) → rewriter.old.top ≡ min (2 ^ 48) high → let line = renumbered (raised raise.above raise.by) (step_of step.entry) in
@@ -176,7 +185,8 @@ fn put_raised(rewriter: &mut Rewriter, raise: Raise, step: StepRef<'_>) -> Resul
     }
 }
 
-/// Reads a line.
+/// Reads a line into the buffer; `NoText` if it spells no step, so that the proof cannot be
+/// renumbered.
 fn read(buffer: &mut StepBuffer, line: &[u8]) -> Result<(), Stop>
     ensures { MatchResult result
         (λ _. SpellsStep line.now buffer.new)
@@ -189,7 +199,7 @@ fn read(buffer: &mut StepBuffer, line: &[u8]) -> Result<(), Stop>
     }
 }
 
-/// Writes the lines of a text under raised numbers, into an empty rewriter.
+/// Writes the lines of a text under raised numbers, into an empty rewriter; `NoText` if there is no such text.
 fn put_lines(
     rewriter: &mut Rewriter,
     buffer: &mut StepBuffer,
@@ -218,8 +228,8 @@ fn put_lines(
 /// Rewrites the proof of a formula of `m` clauses for the formula with `e` clauses more: each number k above `m` becomes k + e, wherever it
 /// occurs. The line of a deletion begins with the highest number added so far, m + e at first, or with 1 if that is 0.
 ///
-/// `None` if a line spells no step, a number would be above 2^48 - 1, or the text would have 2^32 bytes or more. It reads the text once, and
-/// allocates for the new text and for one line.
+/// It answers `None` if a line spells no step, if a number would be above 2^48 - 1, or if the text would have 2^32 bytes or more. The text
+/// is read once, and memory is taken for the new text and for one line.
 pub fn renumber(alloc: Global, text: &[u8], m: u64, e: u64) -> Result<Option<Vec<u8>>, AllocError>
     ensures { IfOk result (λ found. MatchOption found
         ((new : List ℕ) → ¬ (Renumbers m e text.now new))

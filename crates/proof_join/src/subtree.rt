@@ -16,14 +16,14 @@ use lrat_text::{Groups, StepBuffer, StepRef};
 use packed_text::PackedText;
 use std::alloc::{AllocError, Global};
 
-/// The clause that a subtree proves, and its number. It has negations of literals of the path to the subtree, and no other literal.
+/// The clause that a subtree proves, and its number `id`. It has negations of literals of the path to the subtree, and no other literal.
 #[derive(Drop)]
 pub(crate) struct Subtree {
     pub(crate) id: u64,
     pub(crate) clause: Vec<Lit>,
 }
 
-/// The text so far with the number of its last addition, and the buffers in which fragments are read.
+/// The writer of the joined text: the text so far, the number `top` of its last addition, and the buffers in which fragments are read.
 #[derive(Drop)]
 pub(crate) struct Writer<'t> {
     pub(crate) out: Output<'t>,
@@ -31,7 +31,9 @@ pub(crate) struct Writer<'t> {
     pub(crate) scratch: Scratch,
 }
 
-/// The resolvent of a fork's two clauses: the negations of those literals of the path that are negated in one of the clauses.
+/// Returns the clause of a fork: the resolvent of its branches' clauses. Those have only negations
+/// of the cube's literals, so the resolvent is collected along the path: each literal's negation,
+/// if one of the clauses has it.
 fn resolve(alloc: Global, path: &[Lit], left: &[Lit], right: &[Lit]) -> Result<Vec<Lit>, AllocError>
     ensures { IfOk result (λ c. c.items ≡ resolvent path.now left.now right.now) }
 {
@@ -45,7 +47,7 @@ fn resolve(alloc: Global, path: &[Lit], left: &[Lit], right: &[Lit]) -> Result<V
     Ok(clause)
 }
 
-/// The clause of the step that was read last.
+/// The clause that the step in the buffer adds; no literal if the step is a deletion.
 fn last_clause(alloc: Global, buffer: &StepBuffer) -> Result<Vec<Lit>, AllocError>
     ensures { IfOk result (λ c. c.items ≡ clause_of buffer.now) }
 {
@@ -55,7 +57,7 @@ fn last_clause(alloc: Global, buffer: &StepBuffer) -> Result<Vec<Lit>, AllocErro
     }
 }
 
-/// Appends a leaf's fragment; its numbers above `base` go on after the last one written.
+/// Appends the fragment of a leaf; its numbers above `base` go on after the last one written. Returns the leaf as a subtree.
 pub(crate) fn put_leaf(
     alloc: Global,
     writer: &mut Writer<'_>,
@@ -69,7 +71,7 @@ pub(crate) fn put_leaf(
     ensures top { OnOk result (writer.new.top ≡ (leaf_part base writer.old.top (steps_in fragment.now)).top) }
     ensures subtree { IfOk result (λ s. (s.id ≡ (leaf_part base writer.old.top (steps_in fragment.now)).id) × (s.clause.items ≡ (leaf_part base writer.old.top (steps_in fragment.now)).clause)) }
     ensures few { OnOk result ((writer.old.top ≤ writer.new.top) × (writer.new.top ≤ base + length writer.new.out)) }
-    ensures small { IfOk result (λ s. (1 ≤ s.id) × (s.id ≤ writer.new.top) × All (IsWithin 2000000) s.clause.items) }
+    ensures small { IfOk result (λ s. (1 ≤ s.id) × (s.id ≤ writer.new.top) × All (IsWithin 199999999) s.clause.items) }
 {
     let begun = writer.top;
     writer.top = put_fragment(
@@ -86,8 +88,8 @@ pub(crate) fn put_leaf(
     })
 }
 
-/// Appends the line of a fork after those of its branches. It needs none if the clause of a branch does not have the negation of the
-/// branch's literal, since that clause proves the fork too.
+/// Appends the line of a fork after those of its branches. Returns the fork as a subtree. No line is needed if the clause of a branch does
+/// not have the negation of the branch's literal, since that clause proves the fork too.
 pub(crate) fn put_fork(
     alloc: Global,
     writer: &mut Writer<'_>,
@@ -96,8 +98,8 @@ pub(crate) fn put_fork(
     left: Subtree,
     right: Subtree,
 ) -> Result<Subtree, JoinFault>
-    requires left { (1 ≤ left.id) × (left.id ≤ writer.old.top) × All (IsWithin 2000000) left.clause.items }
-    requires right { (1 ≤ right.id) × (right.id ≤ writer.old.top) × All (IsWithin 2000000) right.clause.items }
+    requires left { (1 ≤ left.id) × (left.id ≤ writer.old.top) × All (IsWithin 199999999) left.clause.items }
+    requires right { (1 ≤ right.id) × (right.id ≤ writer.old.top) × All (IsWithin 199999999) right.clause.items }
     requires top { (1 ≤ writer.old.top) × (writer.old.top + 1 < 2 ^ 48) }
     requires short { length writer.old.out < 2 ^ 32 }
     ensures text { Writes result writer.new.out (writer.old.out ++ text_of writer.old.top (own_part path.now branch writer.old.top left.id left.clause.items right.id right.clause.items).steps) }
@@ -105,7 +107,7 @@ pub(crate) fn put_fork(
     ensures id { IfOk result (λ s. s.id ≡ (own_part path.now branch writer.old.top left.id left.clause.items right.id right.clause.items).id) }
     ensures clause { IfOk result (λ s. s.clause.items ≡ (own_part path.now branch writer.old.top left.id left.clause.items right.id right.clause.items).clause) }
     ensures few { OnOk result ((writer.old.top ≤ writer.new.top) × (writer.new.top + length writer.old.out ≤ writer.old.top + length writer.new.out)) }
-    ensures small { IfOk result (λ s. (1 ≤ s.id) × (s.id ≤ writer.new.top) × All (IsWithin 2000000) s.clause.items) }
+    ensures small { IfOk result (λ s. (1 ≤ s.id) × (s.id ≤ writer.new.top) × All (IsWithin 199999999) s.clause.items) }
 {
     if !has_literal(&left.clause, branch.negate()) {
         return Ok(left);

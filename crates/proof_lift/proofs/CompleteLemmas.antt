@@ -1,5 +1,5 @@
 -- Each refutation of a leaf's formula by reverse unit propagation alone is lifted.
-use Rattle.std.proofs.Common.{◌≡◌, ℕ, ◌+◌, ◌-◌, ◌<◌, ◌≤◌, ◌&&◌, ◌⊎◌, inl, inr, Bool, true, false, List, [], ◌∷◌, ◌++◌, Option, Some, None, Ok, Err, cond, refl, sym, ◌∙◌, ap, subst, length, get_or, map, eqb, arith}
+use Rattle.std.proofs.Common.{◌≡◌, ℕ, max, ◌+◌, ◌-◌, ◌^◌, ◌<◌, ◌≤◌, ◌&&◌, ◌⊎◌, inl, inr, Bool, true, false, List, [], ◌∷◌, ◌++◌, Option, Some, None, Ok, Err, cond, refl, sym, ◌∙◌, ap, subst, length, get_or, map, eqb, arith}
 use Rattle.std.specs.Prelude.{IsSome, nat_le, nat_lt}
 use Rattle.std.specs.List.{Contains}
 use Rattle.std.specs.Option.{is_some}
@@ -16,14 +16,14 @@ use Rattle.dimacs.specs.logic.Propagation.{Rup}
 use Rattle.dimacs.specs.logic.Rat.{Group}
 use Rattle.dimacs.specs.text.Words.{lines}
 use Rattle.dimacs.proofs.Members.{Contains-head, Contains-cons, Contains-cons_cases, Contains-nil}
-use Rattle.lrat_text.specs.Lines.{AllRead}
-use Rattle.lrat_text.specs.Log.{Cube}
+use Rattle.lrat_text.specs.Lines.{AllReadWithin}
+use Rattle.lrat_text.specs.Log.{Cube, log_top}
 use Rattle.lrat_text.specs.Proof.{without}
 use Rattle.lrat_text.specs.Runs.{text_of}
 use Rattle.lrat_text.specs.declared.step.Step.{Step}
 use Rattle.lrat_text.specs.declared.step.Step.TheVariants.{Add, Delete}
 use Rattle.lrat_text.proofs.ClauseMapLemmas.{get_here, get_other, none_some, some_is, same_test, apart_test, numbered_between, numbered_at}
-use Rattle.lrat_text.proofs.LineLemmas.{spelled_read}
+use Rattle.lrat_text.proofs.LineLemmas.{spelled_read_within}
 use Rattle.lrat_check.specs.StepFaults.{is_empty_clause, has_groups, deletion_fault, removed}
 use Rattle.lrat_check.specs.declared.fault.StepFault.TheVariants.{UnknownClause}
 use Rattle.lrat_check.proofs.RatExact.{no_pair_is}
@@ -150,25 +150,25 @@ IsOut t = (out : List ℕ) × (t ≡ Ok out)
 out_behind : (front : List ℕ) (t : LiftResult) → IsOut t → IsOut (prepend front t)
 out_behind front t (out, e) = (front ++ out, ap (prepend front) e)
 
-pieces_lift : (q : Cube) (m : ℕ) → (IsTautology q → ⊥) → (pieces : List (List ℕ)) (steps : List Step) (s : LiftState) (M : ClauseMap) (line : ℕ) (piece : List ℕ) → AllRead (piece ∷ pieces) steps → IsOn q s M steps
-    → IsOut (lift_pieces q m s line piece pieces)
+pieces_lift : (most : ℕ) (q : Cube) (m : ℕ) → (IsTautology q → ⊥) → (pieces : List (List ℕ)) (steps : List Step) (s : LiftState) (M : ClauseMap) (line : ℕ) (piece : List ℕ) → AllReadWithin most (piece ∷ pieces) steps → IsOn q s M steps
+    → IsOut (lift_pieces most q m s line piece pieces)
 unfolding lift_pieces
-pieces_lift q m none [] steps s M line piece read (inl t) = ([], ap (lift_end s.closed line) read.0 ∙ ap (λ b. lift_end b line []) t)
-pieces_lift q m none [] steps s M line piece read (inr (f, stand, on)) = absurd (subst (λ ss. RefutesByRup M s.top ss) read.1 on)
-pieces_lift q m none (next ∷ pieces) [] s M line piece read on = absurd read
-pieces_lift q m none (next ∷ pieces) (step ∷ steps) s M line piece (reads, more) on =
-    subst (λ r. IsOut (lift_line q m s line r (λ s'. lift_pieces q m s' (line + 1) next pieces))) (sym reads) (at on (λ ss s' M' h ready. pieces_lift q m none pieces ss s' M' (line + 1) next h ready))
+pieces_lift most q m none [] steps s M line piece read (inl t) = ([], ap (lift_end s.closed line) read.0 ∙ ap (λ b. lift_end b line []) t)
+pieces_lift most q m none [] steps s M line piece read (inr (f, stand, on)) = absurd (subst (λ ss. RefutesByRup M s.top ss) read.1 on)
+pieces_lift most q m none (next ∷ pieces) [] s M line piece read on = absurd read
+pieces_lift most q m none (next ∷ pieces) (step ∷ steps) s M line piece (reads, more) on =
+    subst (λ r. IsOut (lift_line q m s line r (λ s'. lift_pieces most q m s' (line + 1) next pieces))) (sym reads) (at on (λ ss s' M' h ready. pieces_lift most q m none pieces ss s' M' (line + 1) next h ready))
   where
-    at : IsOn q s M (step ∷ steps) → ((ss : List Step) (s' : LiftState) (M' : ClauseMap) → AllRead (next ∷ pieces) ss → IsOn q s' M' ss → IsOut (lift_pieces q m s' (line + 1) next pieces))
-        → IsOut (cond s.closed (lift_pieces q m s (line + 1) next pieces) (lifted_step line s.own (lift_step q m s step) (λ s'. lift_pieces q m s' (line + 1) next pieces)))
+    at : IsOn q s M (step ∷ steps) → ((ss : List Step) (s' : LiftState) (M' : ClauseMap) → AllReadWithin most (next ∷ pieces) ss → IsOn q s' M' ss → IsOut (lift_pieces most q m s' (line + 1) next pieces))
+        → IsOut (cond s.closed (lift_pieces most q m s (line + 1) next pieces) (lifted_step line s.own (lift_step q m s step) (λ s'. lift_pieces most q m s' (line + 1) next pieces)))
     at (inl t) rest =
-        subst (λ b. IsOut (cond b (lift_pieces q m s (line + 1) next pieces) (lifted_step line s.own (lift_step q m s step) (λ s'. lift_pieces q m s' (line + 1) next pieces)))) (sym t)
+        subst (λ b. IsOut (cond b (lift_pieces most q m s (line + 1) next pieces) (lifted_step line s.own (lift_step q m s step) (λ s'. lift_pieces most q m s' (line + 1) next pieces)))) (sym t)
         (rest steps s M more (inl t))
     at (inr (f, stand, refutes)) rest =
         let l = step_lifts q m s M step steps none f stand refutes in
-        subst (λ b. IsOut (cond b (lift_pieces q m s (line + 1) next pieces) (lifted_step line s.own (lift_step q m s step) (λ s'. lift_pieces q m s' (line + 1) next pieces)))) (sym f)
-        (subst (λ (r : LiftedStep). IsOut (lifted_step line s.own r (λ s'. lift_pieces q m s' (line + 1) next pieces))) (sym l.3)
-        (out_behind (text_of s.own l.0) (lift_pieces q m l.1 (line + 1) next pieces) (rest steps l.1 l.2 more l.4)))
+        subst (λ b. IsOut (cond b (lift_pieces most q m s (line + 1) next pieces) (lifted_step line s.own (lift_step q m s step) (λ s'. lift_pieces most q m s' (line + 1) next pieces)))) (sym f)
+        (subst (λ (r : LiftedStep). IsOut (lifted_step line s.own r (λ s'. lift_pieces most q m s' (line + 1) next pieces))) (sym l.3)
+        (out_behind (text_of s.own l.0) (lift_pieces most q m l.1 (line + 1) next pieces) (rest steps l.1 l.2 more l.4)))
 
 -- ---- the leaf's formula
 abbrev units : Cube → List Clause
@@ -213,13 +213,16 @@ leaf_each q F n C live =
           inl (place ∙ ap (λ b. Some (cond b (Kept n (get_or F.clauses (n - 1) [])) Gone)) f, unit_met q C (subst (λ D. Contains (units q) D) same (Contains-get_or (units q) (n - 1 - length F.clauses) [] short)))
     ]
 
-pub refutations_lift : (F : Cnf) (q : Cube) (text : List ℕ) → IsCube F q → IsRefutation (leaf_of q F) text → (out : List ℕ) × (lift_of F q text ≡ Ok out)
+pub refutations_lift : (F : Cnf) (q : Cube) (text : List ℕ) → F.vars ≤ 199999999 → IsCube F q → IsRefutation (leaf_of q F) text → (out : List ℕ) × (lift_of F q text ≡ Ok out)
 unfolding lift_text
-refutations_lift F q text cube (steps, spelled, refutes) = at (lines text) (spelled_read text steps spelled)
+refutations_lift F q text vars cube (steps, spelled, refutes) = at (lines text) (spelled_read_within (log_top F) few text steps spelled)
   where
+    few : max 2000000 F.vars < 2 ^ 48
+    few = omega (arith, vars)
+
     on : IsOn q (begun q F) (map_of (leaf_of q F)) steps
     on = inr (refl, record { each = leaf_each q F }, subst (λ t. RefutesByRup (map_of (leaf_of q F)) t steps) (leaf_total q F) refutes)
 
-    at : (ps : List (List ℕ)) → AllRead ps steps → IsOut (by_pieces (lift_pieces q (length F.clauses) (begun q F) 1) ps)
+    at : (ps : List (List ℕ)) → AllReadWithin (log_top F) ps steps → IsOut (by_pieces (lift_pieces (log_top F) q (length F.clauses) (begun q F) 1) ps)
     at [] read = absurd read
-    at (p ∷ ps) read = pieces_lift q (length F.clauses) cube.no_pair ps steps (begun q F) (map_of (leaf_of q F)) 1 p read on
+    at (p ∷ ps) read = pieces_lift (log_top F) q (length F.clauses) cube.no_pair ps steps (begun q F) (map_of (leaf_of q F)) 1 p read on

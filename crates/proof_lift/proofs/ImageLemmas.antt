@@ -18,7 +18,7 @@ use Rattle.proof_lift.specs.LiftedText.{with_image, place_image, leaf_images}
 use Rattle.proof_lift.specs.Stream.{lemma_image, lemma_in, lemma_among, by_live, images_in}
 use Rattle.proof_lift.specs.inner.Images.{image_in_map, image_in_maps, lemma_images_of}
 use Rattle.proof_lift.specs.declared.lemma_images.LogLemma.{LogLemma}
-use Rattle.proof_lift.specs.declared.lemma_images.Lemmas.{Lemmas}
+use Rattle.proof_lift.specs.declared.lemma_images.LemmaImages.{LemmaImages}
 
 pub is_at_number : (k q : ℕ) → is_at (nat_cmp k) q ≡ eqb k q
 is_at_number k q = grind (arith, nat_tests)
@@ -117,7 +117,7 @@ beside_changed F live old new id w beyond changes = fun_ext (λ n. at n (cases_e
         ap (λ o. by_live F n o (slice_get live n)) (ap (λ (T : ClauseImages). T n) changes ∙ ap (λ b. cond b w (old n)) (ne_eqb n id d))
         ∙ sym (ap (λ b. cond b w (beside F live old n)) (ne_eqb n id d))
 
-pub lemma_changed : (F : Cnf) (live : List Bool) (old new : Lemmas) (id : ℕ) (w : Option ClauseImage) → length live ≤ id → lemma_images_of new ≡ with_image (lemma_images_of old) id w
+pub lemma_changed : (F : Cnf) (live : List Bool) (old new : LemmaImages) (id : ℕ) (w : Option ClauseImage) → length live ≤ id → lemma_images_of new ≡ with_image (lemma_images_of old) id w
     → images_in F live (lemmas_of new) ≡ with_image (images_in F live (lemmas_of old)) id w
 lemma_changed F live old new id w beyond changes =
     ap (beside F live) (among_is new.maps.items)
@@ -125,13 +125,13 @@ lemma_changed F live old new id w beyond changes =
     ∙ ap (λ T. with_image (beside F live T) id w) (sym (among_is old.maps.items))
 
 -- a number after the leaf's formula is a lemma's
-pub lemma_behind : (F : Cnf) (live : List Bool) (x : Lemmas) (n : ℕ) → length live ≤ n → lemma_images_of x n ≡ images_in F live (lemmas_of x) n
+pub lemma_behind : (F : Cnf) (live : List Bool) (x : LemmaImages) (n : ℕ) → length live ≤ n → lemma_images_of x n ≡ images_in F live (lemmas_of x) n
 lemma_behind F live x n beyond =
     sym (ap (λ (T : ClauseImages). T n) (among_is x.maps.items))
     ∙ sym (ap (by_live F n (lemma_among (lemmas_of x) n)) (slice_get_past live n beyond))
 
 -- at the beginning each clause of the leaf's formula is live
-pub all_stand : (F : Cnf) (live : List Bool) (none : Lemmas) (q : List Literal) (units total : ℕ) → ((n : ℕ) → lemma_images_of none n ≡ None) → live ≡ false ∷ replicate total true → total ≡ length F.clauses + units → length q ≡ units
+pub all_stand : (F : Cnf) (live : List Bool) (none : LemmaImages) (q : List Literal) (units total : ℕ) → ((n : ℕ) → lemma_images_of none n ≡ None) → live ≡ false ∷ replicate total true → total ≡ length F.clauses + units → length q ≡ units
     → images_in F live (lemmas_of none) ≡ leaf_images q F
 all_stand F live none q units total no_lemma is count cube = fun_ext at
   where

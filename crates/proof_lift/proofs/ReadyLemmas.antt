@@ -41,7 +41,7 @@ pub record IsFine (x : StepLifter) (i : ℕ) (D : Clause) : Type 0 where
   pub used : FitsTable (vec_len x.scratch.used) D
   pub number : IsClauseNumber i
   pub last : i ≤ x.own
-  pub within : All (IsWithin 2000000) D
+  pub within : All (IsWithin 199999999) D
 
 -- how the value changes between two lines
 pub record Moves (old new : StepLifter) : Type 0 where
@@ -69,7 +69,7 @@ able_moves old new able m = record {
   cube_used = subst (λ c. FitsTable (vec_len new.scratch.used) c.items) (sym m.cube) (fits_longer (vec_len old.scratch.used) (vec_len new.scratch.used) old.cube.items m.used able.cube_used);
   small = λ n i D e. elim (m.stands n i D e) [ inl was ↦ able.small n i D was | inr fine ↦ (fine.number, fine.within) ];
   last = λ n i D e. elim (m.stands n i D e) [ inl was ↦ (let h = able.last n i D was in let o = m.own in omega arith) | inr fine ↦ fine.last ];
-  cube = subst (λ c. All (IsWithin 2000000) c.items) (sym m.cube) able.cube;
+  cube = subst (λ c. All (IsWithin 199999999) c.items) (sym m.cube) able.cube;
   below = m.below;
   room = m.room;
   lemmas = omega (arith, m.live, m.top, able.lemmas);
@@ -131,8 +131,8 @@ union_all P turn (x ∷ q) C hq hC =
 pub fits_union : (places : ℕ) (q C : Clause) → FitsTable places q → FitsTable places C → FitsTable places (union q C)
 fits_union places q C = union_all (λ l. 2 * var_of l + 1 < places) (λ l h. subst (λ v. 2 * v + 1 < places) (sym (var_of-negation l)) h) q C
 
-pub within_union : (q C : Clause) → All (IsWithin 2000000) q → All (IsWithin 2000000) C → All (IsWithin 2000000) (union q C)
-within_union q C = union_all (IsWithin 2000000) (λ l h. subst (λ v. (0 < v) × (v ≤ 2000000)) (sym (var_of-negation l)) h) q C
+pub within_union : (most : ℕ) (q C : Clause) → All (IsWithin most) q → All (IsWithin most) C → All (IsWithin most) (union q C)
+within_union most q C = union_all (IsWithin most) (λ l h. subst (λ v. (0 < v) × (v ≤ most)) (sym (var_of-negation l)) h) q C
 
 -- ---- what is kept of a walk
 pub trims_all : (P : Literal → Type 0) (E : Clause) (w : WalkOutcome) (D : Clause) (numbers : List ℕ) → All P E → Trims E w D numbers → All P D
@@ -153,8 +153,8 @@ trims_small E Open D numbers h t = absurd t
 trims_small E (Wrong number) D numbers h t = absurd t
 trims_small E (Closed ps last conflict) D numbers h t = subst (λ ns. All IsClauseNumber ns) (sym t.1) (kept_all ps conflict last h.0 h.1)
 
-pub trims_numbers : (T : ClauseImages) (hints : List ℕ) (A : Assumed) (E D : Clause) (numbers : List ℕ) → ImagesSmall T → Trims E (lift_walk T hints A) D numbers → All IsClauseNumber numbers
-trims_numbers T hints A E D numbers small t =
+pub trims_numbers : (most : ℕ) (T : ClauseImages) (hints : List ℕ) (A : Assumed) (E D : Clause) (numbers : List ℕ) → ImagesSmall most T → Trims E (lift_walk T hints A) D numbers → All IsClauseNumber numbers
+trims_numbers most T hints A E D numbers small t =
     trims_small E (lift_walk T hints A) D numbers
     (walk_all (λ p. IsClauseNumber p.number) (λ i F. IsClauseNumber i) T (λ n i F e. ((small n i F e).0, λ l here. (small n i F e).0)) hints A) t
 
@@ -246,8 +246,8 @@ leaf_kept q F n i D e = first (eqb n 0) refl e
 pub clause_fits : (vars places : ℕ) (D : Clause) → 2 * vars + 2 ≤ places → All (IsWithin vars) D → FitsTable places D
 clause_fits vars places D room within k d below = let h = (within k d below).1 in omega arith
 
-pub clause_within : (vars : ℕ) (D : Clause) → vars ≤ 1000000 → All (IsWithin vars) D → All (IsWithin 2000000) D
-clause_within vars D few within k d below = let h = within k d below in (h.0, (let u = h.1 in omega arith))
+pub clause_within : (most vars : ℕ) (D : Clause) → vars ≤ most → All (IsWithin vars) D → All (IsWithin most) D
+clause_within most vars D few within k d below = let h = within k d below in (h.0, (let u = h.1 in omega arith))
 
 -- ---- deletions
 pub remove_step : (m : ℕ) (T T' : ClauseImages) (ids numbers numbers' : List ℕ) (i : ℕ) (s : ClauseImage) → i < length ids → T (get_or ids i 0) ≡ Some s → T' ≡ with_image T (get_or ids i 0) None

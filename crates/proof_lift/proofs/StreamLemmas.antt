@@ -1,7 +1,7 @@
 -- A foreign proof's text that is taken in pieces.
 use mathlib.Core.Path.{fun_ext}
 use Rattle.proof_lift.specs.View.{held_of}
-use Rattle.std.proofs.Common.{◌≡◌, ◌⊎◌, ℕ, ◌+◌, Bool, true, false, List, [], ◌∷◌, ◌++◌, Result, Ok, Err, inl, inr, refl, sym, ◌∙◌, ap, cond, length, eqb, arith, append_assoc}
+use Rattle.std.proofs.Common.{◌≡◌, ◌⊎◌, ℕ, max, ◌+◌, ◌<◌, ◌≤◌, ◌^◌, Bool, true, false, List, [], ◌∷◌, ◌++◌, Result, Ok, Err, inl, inr, refl, sym, ◌∙◌, ap, cond, length, eqb, arith, append_assoc}
 use Rattle.std.specs.List.{All, slice_split}
 use Rattle.std.proofs.lemmas.List.{append-nil}
 use Rattle.std.proofs.lemmas.List.Splits.{slice_split_none, slice_split_at}
@@ -9,15 +9,15 @@ use Rattle.std.proofs.lemmas.Bool.{both_ways, ne_eqb}
 use Rattle.std.proofs.lemmas.List.Elements.{All-head, All-tail, All-nil}
 use Rattle.dimacs.specs.logic.Cnf.{Cnf}
 use Rattle.lrat_text.specs.Lines.{IsCut, IsOpen}
-use Rattle.lrat_text.specs.Log.{Cube}
-use Rattle.lrat_text.specs.Parser.{step_in}
+use Rattle.lrat_text.specs.Log.{Cube, log_top}
+use Rattle.lrat_text.specs.Parser.{step_within}
 use Rattle.lrat_text.specs.Grammar.{IsStep}
 use Rattle.lrat_text.specs.Runs.{text_of}
 use Rattle.lrat_text.specs.WrittenLine.{line_text}
 use Rattle.lrat_text.specs.declared.step.Step.{Step}
 use Rattle.lrat_text.specs.declared.step.Step.TheVariants.{Add}
-use Rattle.lrat_text.proofs.LineLemmas.{written_spells, written_one_line}
-use Rattle.lrat_text.proofs.SpellingLemmas.{spelled_found}
+use Rattle.lrat_text.proofs.LineLemmas.{written_spells, written_one_line, spells_step_more}
+use Rattle.lrat_text.proofs.SpellingLemmas.{spelled_found_within}
 use Rattle.lrat_text.specs.LineSink.{TakesAll, HandsOn, PieceStops, ended_lines}
 use Rattle.lrat_text.specs.declared.line_splitter.PieceFault.{PieceFault}
 use Rattle.lrat_text.specs.declared.line_splitter.PieceFault.TheVariants.{NoMemory as NoPlace, Line}
@@ -46,31 +46,31 @@ behind_append a b (Err fault) = refl
 
 -- ---- lines
 -- lifting goes on after a line
-pub lift_text-line : (q : Cube) (m : ℕ) (s : LiftState) (n : ℕ) (line rest : List ℕ) → All (λ b. is_lf b ≡ false) line
-    → lift_text q m s n (line ++ 10 ∷ rest) ≡ lift_line q m s n (step_in line) (λ s'. lift_text q m s' (n + 1) rest)
+pub lift_text-line : (most : ℕ) (q : Cube) (m : ℕ) (s : LiftState) (n : ℕ) (line rest : List ℕ) → All (λ b. is_lf b ≡ false) line
+    → lift_text most q m s n (line ++ 10 ∷ rest) ≡ lift_line q m s n (step_within most line) (λ s'. lift_text most q m s' (n + 1) rest)
 unfolding lift_text lift_pieces
-lift_text-line q m s n line rest none =
+lift_text-line most q m s n line rest none =
     let more : (piece : List ℕ) × (pieces : List (List ℕ)) × (slice_split is_lf rest ≡ piece ∷ pieces) = first_piece rest in
-    ap (by_pieces (lift_pieces q m s n))
+    ap (by_pieces (lift_pieces most q m s n))
     (slice_split_at is_lf line 10 rest none refl ∙ ap (λ ps. line ∷ ps) more.2)
-    ∙ ap (lift_line q m s n (step_in line))
-    (fun_ext (λ s'. sym (ap (by_pieces (lift_pieces q m s' (n + 1))) more.2)))
+    ∙ ap (lift_line q m s n (step_within most line))
+    (fun_ext (λ s'. sym (ap (by_pieces (lift_pieces most q m s' (n + 1))) more.2)))
 
 -- and ends if no line is left
-pub lift_text-end : (q : Cube) (m : ℕ) (s : LiftState) (n : ℕ) (text : List ℕ) → All (λ b. is_lf b ≡ false) text → lift_text q m s n text ≡ lift_end s.closed n text
+pub lift_text-end : (most : ℕ) (q : Cube) (m : ℕ) (s : LiftState) (n : ℕ) (text : List ℕ) → All (λ b. is_lf b ≡ false) text → lift_text most q m s n text ≡ lift_end s.closed n text
 unfolding lift_text lift_pieces
-lift_text-end q m s n text none = ap (by_pieces (lift_pieces q m s n)) (slice_split_none is_lf text none)
+lift_text-end most q m s n text none = ap (by_pieces (lift_pieces most q m s n)) (slice_split_none is_lf text none)
 
 -- what lifting gives of the text that follows
 abbrev pub text_in : LineLifter → List ℕ → LiftResult
-text_in c text = lift_text c.lifting.cube.items (length c.lifting.images.formula.clauses) (state_of c.lifting) c.line text
+text_in c text = lift_text (log_top c.lifting.images.formula) c.lifting.cube.items (length c.lifting.images.formula.clauses) (state_of c.lifting) c.line text
 
 same_leaf : (c d : LineLifter) (text : List ℕ) → SameLeaf c.lifting d.lifting → d.line ≡ c.line + 1
-    → lift_text c.lifting.cube.items (length c.lifting.images.formula.clauses) (state_of d.lifting) (c.line + 1) text ≡ text_in d text
+    → lift_text (log_top c.lifting.images.formula) c.lifting.cube.items (length c.lifting.images.formula.clauses) (state_of d.lifting) (c.line + 1) text ≡ text_in d text
 same_leaf c d text leaf next =
-    ap (λ v. lift_text v.items (length c.lifting.images.formula.clauses) (state_of d.lifting) (c.line + 1) text) (sym leaf.cube)
-    ∙ ap (λ f. lift_text d.lifting.cube.items (length f.clauses) (state_of d.lifting) (c.line + 1) text) (sym leaf.formula)
-    ∙ ap (λ n. lift_text d.lifting.cube.items (length d.lifting.images.formula.clauses) (state_of d.lifting) n text) (sym next)
+    ap (λ v. lift_text (log_top c.lifting.images.formula) v.items (length c.lifting.images.formula.clauses) (state_of d.lifting) (c.line + 1) text) (sym leaf.cube)
+    ∙ ap (λ f. lift_text (log_top f) d.lifting.cube.items (length f.clauses) (state_of d.lifting) (c.line + 1) text) (sym leaf.formula)
+    ∙ ap (λ n. lift_text (log_top d.lifting.images.formula) d.lifting.cube.items (length d.lifting.images.formula.clauses) (state_of d.lifting) n text) (sym next)
 
 -- lines that are passed, one after the other, write these bytes
 abbrev pub Writes : LineLifter → List ℕ → LineLifter → Type 0
@@ -88,8 +88,8 @@ all_write (line ∷ lines) s t each (m, takes, later) =
       rest.1 ∙ ap (λ (x : List ℕ). x ++ rest.0) takes.out ∙ append_assoc s.out.items takes.appended rest.0,
       λ more.
           ap (text_in s) (append_assoc line (10 ∷ ended_lines lines) more)
-          ∙ lift_text-line s.lifting.cube.items (length s.lifting.images.formula.clauses) (state_of s.lifting) s.line line (ended_lines lines ++ more) (All-head IsOpen line lines each)
-          ∙ takes.goes_on (λ s'. lift_text s.lifting.cube.items (length s.lifting.images.formula.clauses) s' (s.line + 1) (ended_lines lines ++ more))
+          ∙ lift_text-line (log_top s.lifting.images.formula) s.lifting.cube.items (length s.lifting.images.formula.clauses) (state_of s.lifting) s.line line (ended_lines lines ++ more) (All-head IsOpen line lines each)
+          ∙ takes.goes_on (λ s'. lift_text (log_top s.lifting.images.formula) s.lifting.cube.items (length s.lifting.images.formula.clauses) s' (s.line + 1) (ended_lines lines ++ more))
           ∙ ap (prepend takes.appended) (same_leaf s m (ended_lines lines ++ more) takes.leaf takes.next ∙ rest.2 more)
           ∙ sym (behind_append takes.appended rest.0 (text_in t more)),
     )
@@ -112,8 +112,8 @@ refused_writes : (s : LineLifter) (rest line later : List ℕ) (fault : CheckFau
 refused_writes s rest line later fault cut stops more =
     ap (λ (x : List ℕ). text_in s (x ++ more)) cut.0
     ∙ ap (text_in s) (append_assoc line (10 ∷ later) more)
-    ∙ lift_text-line s.lifting.cube.items (length s.lifting.images.formula.clauses) (state_of s.lifting) s.line line (later ++ more) cut.1
-    ∙ stops (λ s'. lift_text s.lifting.cube.items (length s.lifting.images.formula.clauses) s' (s.line + 1) (later ++ more))
+    ∙ lift_text-line (log_top s.lifting.images.formula) s.lifting.cube.items (length s.lifting.images.formula.clauses) (state_of s.lifting) s.line line (later ++ more) cut.1
+    ∙ stops (λ s'. lift_text (log_top s.lifting.images.formula) s.lifting.cube.items (length s.lifting.images.formula.clauses) s' (s.line + 1) (later ++ more))
 
 abbrev pub Fails : LineLifter → List ℕ → List ℕ → CheckFault → List ℕ → Type 0
 Fails s begun piece fault appended = (fault ≡ no_memory) ⊎ LeadsTo (Within (held_of s.lifting) s.line begun) piece appended (Failed fault)
@@ -172,7 +172,7 @@ takes_within h line begun piece before after new a = record {
 
 -- what is answered at the end
 pub ends : (h : Held) (line : ℕ) (begun : List ℕ) → IsOpen begun → lift_more (Within h line begun) [] ≡ lift_end h.closed line begun
-ends h line begun no_lf = ap (lift_text h.cube (length h.formula.clauses) (state_in h) line) (append-nil begun) ∙ lift_text-end h.cube (length h.formula.clauses) (state_in h) line begun no_lf
+ends h line begun no_lf = ap (lift_text (log_top h.formula) h.cube (length h.formula.clauses) (state_in h) line) (append-nil begun) ∙ lift_text-end (log_top h.formula) h.cube (length h.formula.clauses) (state_in h) line begun no_lf
 
 open_none : IsOpen []
 open_none = All-nil (λ b. is_lf b ≡ false)
@@ -183,27 +183,32 @@ met_none [] = refl
 met_none (x ∷ q) = met_none q
 
 -- what becomes of a line of the empty lemma
-line_is : (h : Held) (line n : ℕ) (hints : List ℕ) → h.closed ≡ false → IsStep (Add n [] hints [])
-    → lift_more (Within h line []) (empty_lemma n hints) ≡ lifted_step line h.own (lift_step h.cube (length h.formula.clauses) (state_in h) (Add n [] hints [])) (λ t. lift_text h.cube (length h.formula.clauses) t (line + 1) [])
-line_is h line n hints still limits =
+line_is : (h : Held) (line n : ℕ) (hints : List ℕ) → h.formula.vars ≤ 199999999 → h.closed ≡ false → IsStep (Add n [] hints [])
+    → lift_more (Within h line []) (empty_lemma n hints) ≡ lifted_step line h.own (lift_step h.cube (length h.formula.clauses) (state_in h) (Add n [] hints [])) (λ t. lift_text (log_top h.formula) h.cube (length h.formula.clauses) t (line + 1) [])
+line_is h line n hints low still limits =
+    let most : ℕ = log_top h.formula in
+    let few : max 2000000 h.formula.vars < 2 ^ 48 = omega arith in
+    let more : 2000000 ≤ max 2000000 h.formula.vars = omega arith in
     let q = h.cube in
     let m = length h.formula.clauses in
     let s = state_in h in
     let step = Add n [] hints [] in
     let none = no_lf_from (line_text n step) (written_one_line n step limits.0 limits) in
-    lift_text-line q m s line (line_text n step) [] none
-    ∙ ap (λ r. lift_line q m s line r (λ t. lift_text q m t (line + 1) [])) (spelled_found (line_text n step) step (written_spells n step limits.0 limits))
-    ∙ ap (λ b. cond b (lift_text q m s (line + 1) []) (lifted_step line h.own (lift_step q m s step) (λ t. lift_text q m t (line + 1) []))) still
+    lift_text-line most q m s line (line_text n step) [] none
+    ∙ ap (λ r. lift_line q m s line r (λ t. lift_text most q m t (line + 1) []))
+    (spelled_found_within most (line_text n step) step few (spells_step_more 2000000 most more (line_text n step) step (written_spells n step limits.0 limits)))
+    ∙ ap (λ b. cond b (lift_text most q m s (line + 1) []) (lifted_step line h.own (lift_step q m s step) (λ t. lift_text most q m t (line + 1) []))) still
 
 -- the line of an empty lemma that is lifted
-line_lifts : (h : Held) (line n : ℕ) (hints : List ℕ) (steps : List Step) (s' : LiftState) → h.closed ≡ false → IsStep (Add n [] hints [])
+line_lifts : (h : Held) (line n : ℕ) (hints : List ℕ) (steps : List Step) (s' : LiftState) → h.formula.vars ≤ 199999999 → h.closed ≡ false → IsStep (Add n [] hints [])
     → lift_step h.cube (length h.formula.clauses) (state_in h) (Add n [] hints []) ≡ Ok (steps, s') → lift_more (Within h line []) (empty_lemma n hints) ≡ Ok (text_of h.own steps)
-line_lifts h line n hints steps s' still limits is =
+line_lifts h line n hints steps s' low still limits is =
+    let most : ℕ = log_top h.formula in
     let q = h.cube in
     let m = length h.formula.clauses in
-    line_is h line n hints still limits
-    ∙ ap (λ (r : LiftedStep). lifted_step line h.own r (λ t. lift_text q m t (line + 1) [])) is
-    ∙ ap (prepend (text_of h.own steps)) (lift_text-end q m s' (line + 1) [] open_none ∙ ap (λ b. lift_end b (line + 1) []) closed)
+    line_is h line n hints low still limits
+    ∙ ap (λ (r : LiftedStep). lifted_step line h.own r (λ t. lift_text most q m t (line + 1) [])) is
+    ∙ ap (prepend (text_of h.own steps)) (lift_text-end most q m s' (line + 1) [] open_none ∙ ap (λ b. lift_end b (line + 1) []) closed)
     ∙ ap (λ (x : List ℕ). Ok x) (append-nil (text_of h.own steps))
   where
     closed : s'.closed ≡ true
@@ -213,15 +218,15 @@ line_lifts h line n hints steps s' still limits is =
     ]
 
 -- no line of the empty lemma ends a text if none is lifted
-pub nothing_ends : (h : Held) (line : ℕ) (rest out : List ℕ) → rest ≡ [] → h.closed ≡ false
+pub nothing_ends : (h : Held) (line : ℕ) (rest out : List ℕ) → h.formula.vars ≤ 199999999 → rest ≡ [] → h.closed ≡ false
     → ((n : ℕ) (hints : List ℕ) (steps : List Step) (s' : LiftState) → IsStep (Add n [] hints []) → lift_step h.cube (length h.formula.clauses) (state_in h) (Add n [] hints []) ≡ Ok (steps, s') → ⊥)
     → EndsWithLine (Within h line rest) out → ⊥
-nothing_ends h line rest out none still nothing e =
+nothing_ends h line rest out low none still nothing e =
     at (lift_step h.cube (length h.formula.clauses) (state_in h) (Add e.number [] e.hints [])) refl
-    (sym (line_is h line e.number e.hints still e.limits) ∙ sym (ap (λ (r : List ℕ). lift_more (Within h line r) (empty_lemma e.number e.hints)) none) ∙ e.lifts)
+    (sym (line_is h line e.number e.hints low still e.limits) ∙ sym (ap (λ (r : List ℕ). lift_more (Within h line r) (empty_lemma e.number e.hints)) none) ∙ e.lifts)
   where
     at : (r : LiftedStep) → lift_step h.cube (length h.formula.clauses) (state_in h) (Add e.number [] e.hints []) ≡ r
-        → lifted_step line h.own r (λ t. lift_text h.cube (length h.formula.clauses) t (line + 1) []) ≡ Ok out → ⊥
+        → lifted_step line h.own r (λ t. lift_text (log_top h.formula) h.cube (length h.formula.clauses) t (line + 1) []) ≡ Ok out → ⊥
     at (Err number) is l = absurd cc
     at (Ok (steps, s')) is l = nothing e.number e.hints steps s' e.limits is
 
@@ -237,9 +242,9 @@ none_begun (x ∷ rest) b e t = absurd (both_ways b (e ∙ ne_eqb (length (x ∷
 pub end_is : (h : Held) (line : ℕ) (rest : List ℕ) (b : Bool) → rest ≡ [] → h.closed ≡ b → lift_more (Within h line rest) [] ≡ lift_end b line []
 end_is h line rest b none is = ap (λ (r : List ℕ). lift_more (Within h line r) []) none ∙ ends h line [] open_none ∙ ap (λ c. lift_end c line []) is
 
-pub closed_by : (h : Held) (line n : ℕ) (rest hints : List ℕ) (steps : List Step) (s' : LiftState) → rest ≡ [] → h.closed ≡ false → IsStep (Add n [] hints [])
+pub closed_by : (h : Held) (line n : ℕ) (rest hints : List ℕ) (steps : List Step) (s' : LiftState) → h.formula.vars ≤ 199999999 → rest ≡ [] → h.closed ≡ false → IsStep (Add n [] hints [])
     → lift_step h.cube (length h.formula.clauses) (state_in h) (Add n [] hints []) ≡ Ok (steps, s') → IsEnded (Within h line rest) (text_of h.own steps)
-closed_by h line n rest hints steps s' none still limits is =
+closed_by h line n rest hints steps s' low none still limits is =
     inr (
       line,
       end_is h line rest false none still,
@@ -247,7 +252,7 @@ closed_by h line n rest hints steps s' none still limits is =
         number = n;
         hints = hints;
         limits = limits;
-        lifts = ap (λ (r : List ℕ). lift_more (Within h line r) (empty_lemma n hints)) none ∙ line_lifts h line n hints steps s' still limits is;
+        lifts = ap (λ (r : List ℕ). lift_more (Within h line r) (empty_lemma n hints)) none ∙ line_lifts h line n hints steps s' low still limits is;
       },
     )
 

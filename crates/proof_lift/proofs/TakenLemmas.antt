@@ -1,7 +1,8 @@
 -- One line that is taken.
 use Rattle.std.proofs.Common.{◌≡◌, ℕ, ◌+◌, ◌≤◌, true, false, List, [], Ok, cond, sym, ◌∙◌, ap, length, arith}
 use Rattle.std.proofs.lemmas.List.{append-nil}
-use Rattle.lrat_text.specs.Parser.{step_in}
+use Rattle.lrat_text.specs.Log.{log_top}
+use Rattle.lrat_text.specs.Parser.{step_within}
 use Rattle.lrat_text.specs.Runs.{text_of}
 use Rattle.lrat_text.specs.declared.step.Step.{Step}
 use Rattle.proof_lift.specs.LiftedText.{LiftedStep, prepend, lift_line, lifted_step, lift_step}
@@ -20,7 +21,7 @@ ready_later n m x later h = record {
   clean = record { marks = below_later n m x.scratch.marks.items later h.clean.marks; used = below_later n m x.scratch.used.items later h.clean.used };
 }
 
-pub takes_closed : (old new : LineLifter) (line : List ℕ) (step : Step) → step_in line ≡ Ok step → old.lifting.closed ≡ true → new.lifting ≡ old.lifting → new.out ≡ old.out → new.line ≡ old.line + 1 → Takes old line new
+pub takes_closed : (old new : LineLifter) (line : List ℕ) (step : Step) → step_within (log_top old.lifting.images.formula) line ≡ Ok step → old.lifting.closed ≡ true → new.lifting ≡ old.lifting → new.out ≡ old.out → new.line ≡ old.line + 1 → Takes old line new
 takes_closed old new line step reads closed same out next = record {
   appended = [];
   out = ap (λ v. v.items) out ∙ sym (append-nil old.out.items);
@@ -33,7 +34,7 @@ takes_closed old new line step reads closed same out next = record {
   next = next;
 }
 
-pub takes_step : (old new : LineLifter) (line : List ℕ) (step : Step) → step_in line ≡ Ok step → old.lifting.closed ≡ false
+pub takes_step : (old new : LineLifter) (line : List ℕ) (step : Step) → step_within (log_top old.lifting.images.formula) line ≡ Ok step → old.lifting.closed ≡ false
     → WritesAs (lift_step old.lifting.cube.items (length old.lifting.images.formula.clauses) (state_of old.lifting) step) old.lifting.own (state_of new.lifting) old.out.items new.out.items
     → SameLeaf old.lifting new.lifting → new.line ≡ old.line + 1 → Takes old line new
 takes_step old new line step reads open_still (steps, is, out) leaf next = record {

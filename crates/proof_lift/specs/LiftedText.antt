@@ -7,8 +7,8 @@ use Rattle.dimacs.specs.logic.Propagation.{negations}
 use Rattle.dimacs.specs.logic.Rat.{Group}
 use Rattle.dimacs.specs.text.Words.{lines}
 use Rattle.lrat_text.specs.Faults.{fault_number}
-use Rattle.lrat_text.specs.Log.{Cube}
-use Rattle.lrat_text.specs.Parser.{step_in}
+use Rattle.lrat_text.specs.Log.{Cube, log_top}
+use Rattle.lrat_text.specs.Parser.{step_within}
 use Rattle.lrat_text.specs.Runs.{text_of}
 use Rattle.lrat_text.specs.declared.fault.TextFault.{TextFault}
 use Rattle.lrat_text.specs.declared.step.Step.{Step}
@@ -65,12 +65,15 @@ deletion (i ∷ is) = Delete (i ∷ is) ∷ []
 abbrev pub LiftedStep : Type 0
 LiftedStep = Result (List Step × LiftState) ℕ
 
--- the lifted step that writes a lemma of the log as the image of the foreign lemma of the number `id`
+-- The lifted step that writes a lemma of the log as the image of the foreign lemma of the number
+-- `id`. The positions are: the state, `id`, whether the lemma is empty, the clause and the hints of
+-- the lemma of the log.
 abbrev pub written : LiftState → ℕ → Bool → Clause → List ℕ → LiftedStep
 written s id empty D numbers =
     Ok (Add (s.own + 1) D numbers [] ∷ [], record { stands = with_image s.stands id (Some (Kept (s.own + 1) D)); top = id; own = s.own + 1; closed = empty })
 
--- the lifted step of a lemma, by the end of the walk along its hints; hints without a conflict have fault 15
+-- cube, state, number and clause of a foreign lemma, the end of the walk along its hints: the
+-- lifted step of the lemma; hints without a conflict have fault 15
 abbrev pub lift_lemma : Cube → LiftState → ℕ → Clause → WalkOutcome → LiftedStep
 lift_lemma q s id C Open = Err 15
 lift_lemma q s id C (Wrong number) = Err number
@@ -121,19 +124,20 @@ abbrev pub lift_end : Bool → ℕ → List ℕ → LiftResult
 lift_end closed line [] = if closed then Ok [] else refused 13 line 0
 lift_end closed line (b ∷ bs) = refused 1 line 2
 
--- what the pieces of a text between LFs are lifted to; the first piece is the line of this number, and the last one is the text's end
-unfoldable pub lift_pieces : Cube → ℕ → LiftState → ℕ → List ℕ → List (List ℕ) → LiftResult
-lift_pieces q m s line piece [] = lift_end s.closed line piece
-lift_pieces q m s line piece (next ∷ pieces) = lift_line q m s line (step_in piece) (λ s'. lift_pieces q m s' (line + 1) next pieces)
+-- what the pieces of a text between LFs are lifted to, with variables up to most; the first piece is the line of this number, and the
+-- last one is the text's end
+unfoldable pub lift_pieces : ℕ → Cube → ℕ → LiftState → ℕ → List ℕ → List (List ℕ) → LiftResult
+lift_pieces most q m s line piece [] = lift_end s.closed line piece
+lift_pieces most q m s line piece (next ∷ pieces) = lift_line q m s line (step_within most piece) (λ s'. lift_pieces most q m s' (line + 1) next pieces)
 
 -- the result of a function of the first piece and the later ones; a text has at least one piece, which is its end
 abbrev pub by_pieces : (List ℕ → List (List ℕ) → LiftResult) → List (List ℕ) → LiftResult
 by_pieces lift [] = lift [] []
 by_pieces lift (piece ∷ pieces) = lift piece pieces
 
--- what a text is lifted to if its first line has this number
-unfoldable pub lift_text : Cube → ℕ → LiftState → ℕ → List ℕ → LiftResult
-lift_text q m s line text = by_pieces (lift_pieces q m s line) (lines text)
+-- what a text, with variables up to most, is lifted to if its first line has this number
+unfoldable pub lift_text : ℕ → Cube → ℕ → LiftState → ℕ → List ℕ → LiftResult
+lift_text most q m s line text = by_pieces (lift_pieces most q m s line) (lines text)
 
 -- the image of the clause of number n of a leaf's formula: a clause of F is its own image, and the cube's units need none
 abbrev pub place_image : Cnf → ℕ → ClauseImage
@@ -147,6 +151,7 @@ leaf_images q F n = if n == 0 then None else if nat_le n (length F.clauses + len
 abbrev pub begun : Cube → Cnf → LiftState
 begun q F = record { stands = leaf_images q F; top = length F.clauses + length q; own = length F.clauses; closed = false }
 
--- the text that a proof of the leaf's formula is lifted to, or the proof's first fault
+-- the text that a proof of the leaf's formula is lifted to, or the proof's first fault; the proof may have the variables that a log over
+-- the formula may have
 abbrev pub lift_of : Cnf → Cube → List ℕ → LiftResult
-lift_of F q text = lift_text q (length F.clauses) (begun q F) 1 text
+lift_of F q text = lift_text (log_top F) q (length F.clauses) (begun q F) 1 text

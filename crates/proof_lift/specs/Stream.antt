@@ -1,7 +1,7 @@
 -- The lifting of a text that comes in pieces: the state between two pieces.
 use Rattle.std.specs.Prelude.{◌≡◌, ◌⊎◌, ℕ, Bool, true, false, List, [], ◌∷◌, ◌++◌, ◌==◌, ◌%◌, Option, Some, None, Result, Ok, Err, length, slice_get, if◌then◌else◌}
 use Rattle.dimacs.specs.logic.Cnf.{Cnf}
-use Rattle.lrat_text.specs.Log.{Cube}
+use Rattle.lrat_text.specs.Log.{Cube, log_top}
 use Rattle.lrat_text.specs.Grammar.{IsStep}
 use Rattle.lrat_text.specs.WrittenLine.{line_of}
 use Rattle.lrat_text.specs.declared.step.Step.TheVariants.{Add}
@@ -57,7 +57,7 @@ pub data LiftProgress : Type 0 where
 
 -- what is written if exactly these bytes follow
 abbrev pub lift_more : LiftProgress → List ℕ → LiftResult
-lift_more (Within h line begun) more = lift_text h.cube (length h.formula.clauses) (state_in h) line (begun ++ more)
+lift_more (Within h line begun) more = lift_text (log_top h.formula) h.cube (length h.formula.clauses) (state_in h) line (begun ++ more)
 lift_more (Failed fault) more = Err fault
 
 -- the answer to a piece, by the state after it
@@ -65,8 +65,9 @@ abbrev pub answer_in : LiftProgress → Result (Unit {0}) CheckFault
 answer_in (Within h line begun) = Ok tt
 answer_in (Failed fault) = Err fault
 
--- these bytes of a proof of the leaf's formula were taken, and those were written: whatever follows, the whole is lifted to what was
--- written and what is written from here. Or memory was refused.
+-- formula, cube, progress, `bytes`, `written`: `bytes` of a proof of the leaf's formula were taken,
+-- and the bytes `written` of the log were written. Whatever follows, the whole proof is lifted to
+-- `written` and then what is written from this progress on. Or memory was refused.
 abbrev pub HasTaken : Cnf → Cube → LiftProgress → List ℕ → List ℕ → Type 0
 HasTaken F q p bytes written = (p ≡ Failed no_memory) ⊎ ((more : List ℕ) → lift_of F q (bytes ++ more) ≡ prepend written (lift_more p more))
 

@@ -3,7 +3,7 @@ use Rattle.std.specs.Prelude.{ℕ, List, Option, Some, None, map}
 use Rattle.std.specs.BTreeMap.{BTreeMap}
 use Rattle.proof_lift.specs.Stream.{Held}
 use Rattle.proof_lift.specs.HintWalk.{ClauseImage, Gone, Kept}
-use Rattle.proof_lift.specs.declared.lemma_images.Lemmas.{Lemmas}
+use Rattle.proof_lift.specs.declared.lemma_images.LemmaImages.{LemmaImages}
 use Rattle.proof_lift.specs.declared.lemma_images.LogLemma.{LogLemma}
 use Rattle.proof_lift.specs.declared.step_lifter.StepLifter.{StepLifter}
 
@@ -17,7 +17,7 @@ abbrev pub entries_of : BTreeMap ℕ (Option LogLemma) → List (ℕ × ClauseIm
 entries_of m = map (λ e. (e.0, image_of_lemma e.1)) m.entries
 
 -- the live lemmas with their images, map by map
-abbrev pub lemmas_of : Lemmas → List (List (ℕ × ClauseImage))
+abbrev pub lemmas_of : LemmaImages → List (List (ℕ × ClauseImage))
 lemmas_of x = map entries_of x.maps.items
 
 -- the state between two lines, from the fields of a lifter

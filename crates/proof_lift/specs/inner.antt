@@ -8,7 +8,6 @@ pub mod Linked
 pub mod Reached
 pub mod Propagation
 pub mod Ready
-pub mod Statuses
 pub mod Stream
 pub mod Tables
 pub mod Walks

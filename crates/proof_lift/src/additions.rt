@@ -16,14 +16,16 @@ ghost use Rattle.proof_lift.specs.inner.Output.{WritesAs, IsPrefix};
 
 use crate::fault::LineFault;
 use crate::lemma_images::LogLemma;
+use crate::line_writer::put_line;
 use crate::marks::{assume_negations, join_cube, meets};
 use crate::step_lifter::{Lemma, StepLifter};
 use dimacs::Lit;
-use lrat_text::{Groups, StepRef, put_ref};
+use lrat_text::{Groups, StepRef};
 
 impl StepLifter {
-    /// Drops a lemma that has a literal of the cube: no image is written, and none is needed.
-    fn pass(&mut self, id: u64) -> Result<(), LineFault>
+    /// Drops a foreign lemma that has a literal of the cube: it is true under the cube, so no later
+    /// lemma needs it, and nothing is written.
+    fn drop_lemma(&mut self, id: u64) -> Result<(), LineFault>
         requires lemma { self.old.top < id }
         requires live { length self.old.images.live.items ≤ self.old.top + 1 }
         ensures stands { OnOk result (images_of self.new.images ≡ with_image (images_of self.old.images) id (Some Gone)) }
@@ -47,7 +49,7 @@ impl StepLifter {
         requires lemma { self.old.top < id }
         requires live { length self.old.images.live.items ≤ self.old.top + 1 }
         requires number { IsClauseNumber (self.old.own + 1) }
-        requires literals { All (IsWithin 2000000) literals.items }
+        requires literals { All (IsWithin 199999999) literals.items }
         requires hints { All IsClauseNumber self.old.scratch.numbers.items }
         ensures stands { OnOk result (images_of self.new.images ≡ with_image (images_of self.old.images) id (Some (Kept (self.old.own + 1) literals.items))) }
         ensures counts { OnOk result ((self.new.top ≡ id) × (self.new.own ≡ self.old.own + 1) × (self.new.closed ≡ empty)) }
@@ -64,7 +66,7 @@ impl StepLifter {
             hints: &self.scratch.numbers,
             groups: &no_group,
         };
-        put_ref(line, number, out)?;
+        put_line(line, number, out)?;
         self.images.put(id, Some(LogLemma { number, literals }))?;
         self.top = id;
         self.own = number;
@@ -72,8 +74,9 @@ impl StepLifter {
         Ok(())
     }
 
-    /// Lifts a lemma that has no literal of the cube, and the negations of whose literals are marked. `Err` with the fault of the walk
-    /// along its hints.
+    /// Lifts a lemma that has no literal of the cube: derives its image from the images of its
+    /// hints, and writes it. The negations of the lemma's literals are marked before the call.
+    /// `Err` with the fault of the walk along its hints.
     fn lift(
         &mut self,
         id: u64,
@@ -83,7 +86,7 @@ impl StepLifter {
     ) -> Result<(), LineFault>
         requires lemma { self.old.top < id }
         requires number { IsClauseNumber id }
-        requires literals { All (IsWithin 2000000) lemma.lits.now }
+        requires literals { All (IsWithin 199999999) lemma.lits.now }
         requires ready { IsAssumed line self.old lemma.lits.now }
         ensures writes { OnOk result (WritesAs (lift_lemma self.old.cube.items (state_of self.old) id lemma.entry.lits.now
             (lift_walk (images_of self.old.images) lemma.entry.hints.now (negations (union self.old.cube.items lemma.entry.lits.now)))) (state_of self.old).own (state_of self.new) out.old.items out.new.items) }
@@ -118,7 +121,7 @@ impl StepLifter {
         out: &mut Vec<u8>,
     ) -> Result<(), LineFault>
         requires number { IsClauseNumber id }
-        requires literals { All (IsWithin 2000000) lemma.lits.now }
+        requires literals { All (IsWithin 199999999) lemma.lits.now }
         requires ready { IsReady line self.old }
         ensures writes { OnOk result (WritesAs (lift_addition self.old.cube.items (state_of self.old) id lemma.entry.lits.now lemma.entry.hints.now lemma.entry.groups.now) (state_of self.old).own (state_of self.new) out.old.items out.new.items) }
         ensures refused { IfErr result (λ f. (f ≡ LineFault.NoMemory) ⊎ (lift_addition self.old.cube.items (state_of self.old) id lemma.entry.lits.now lemma.entry.hints.now lemma.entry.groups.now ≡ Err (line_fault_number f))) }
@@ -137,7 +140,7 @@ impl StepLifter {
             return Err(LineFault::NotRup);
         }
         if meets(&self.scratch.marks, line, &self.cube) {
-            self.pass(id)?;
+            self.drop_lemma(id)?;
             return Ok(());
         }
         self.lift(id, lemma, line, out)?;

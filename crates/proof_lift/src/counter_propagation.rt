@@ -97,7 +97,7 @@ impl Propagation {
     }
 
     /// Adds an occurrence of a literal in the clause at an index. Tells whether it is the first occurrence of the literal in this clause.
-    fn note(&mut self, clause: usize, l: Lit) -> Result<bool, AllocError> {
+    fn add_occurrence(&mut self, clause: usize, l: Lit) -> Result<bool, AllocError> {
         let stamp = clause.saturating_add(1);
         let Some(seen) = self.seen.get_mut(l.index()) else {
             return Ok(false);
@@ -116,12 +116,13 @@ impl Propagation {
         Ok(true)
     }
 
-    /// Adds an occurrence of each literal of each clause.
-    fn note_all(&mut self, live: Live<'_>) -> Result<(), AllocError> {
+    /// Fills the occurrence lists with each literal of each clause, and counts the clauses'
+    /// literals.
+    fn add_occurrences(&mut self, live: Live<'_>) -> Result<(), AllocError> {
         for i in 0..live.numbers.len() {
             let mut free: usize = 0;
             for l in live.literals(i) {
-                if self.note(i, *l)? {
+                if self.add_occurrence(i, *l)? {
                     free = free.saturating_add(1);
                 }
             }
@@ -138,7 +139,7 @@ impl Propagation {
         }
     }
 
-    /// Makes a literal true, and appends it to the trail.
+    /// Makes a literal true, and appends it to the trail, from which it is propagated.
     fn assume(&mut self, l: Lit) -> Result<(), AllocError> {
         if let Some(truth) = self.truth.get_mut(l.index()) {
             *truth = true;
@@ -157,8 +158,10 @@ impl Propagation {
         None
     }
 
-    /// Visits a clause of which at most one literal is not false: if one is left, makes it true. Tells whether the clause is false.
-    fn look(&mut self, live: Live<'_>, clause: usize, free: usize) -> Result<bool, AllocError> {
+    /// Visits a clause of which at most one literal is not false. With one left, that literal
+    /// becomes true and the clause joins the order; with none left, the clause is false, ends the
+    /// order, and the answer is true.
+    fn visit(&mut self, live: Live<'_>, clause: usize, free: usize) -> Result<bool, AllocError> {
         let Some(number) = live.numbers.get(clause) else {
             return Ok(false);
         };
@@ -176,11 +179,11 @@ impl Propagation {
     }
 
     /// Visits the clauses with at most one literal. Tells whether one of them is false.
-    fn look_at_units(&mut self, live: Live<'_>) -> Result<bool, AllocError> {
+    fn visit_units(&mut self, live: Live<'_>) -> Result<bool, AllocError> {
         for i in 0..self.free.len() {
             if let Some(free) = self.free.get(i) {
                 let free = *free;
-                if free < 2 && self.look(live, i, free)? {
+                if free < 2 && self.visit(live, i, free)? {
                     return Ok(true);
                 }
             }
@@ -188,7 +191,8 @@ impl Propagation {
         Ok(false)
     }
 
-    /// Counts down each clause that has this literal, which has become false. Tells whether one of the clauses is false then.
+    /// Counts one literal down in each clause that has this literal, which has become false, and
+    /// visits the clauses with at most one left. Tells whether one of them is false then.
     fn falsify(&mut self, live: Live<'_>, l: Lit) -> Result<bool, AllocError> {
         let mut at = match self.first.get(l.index()) {
             Some(first) => *first,
@@ -205,7 +209,7 @@ impl Propagation {
                 *free = free.saturating_sub(1);
                 left = *free;
             }
-            if left < 2 && self.look(live, clause, left)? {
+            if left < 2 && self.visit(live, clause, left)? {
                 return Ok(true);
             }
         }
@@ -213,11 +217,11 @@ impl Propagation {
     }
 
     /// Propagates the cube's literals to the end. Tells whether a clause is false then.
-    fn run(&mut self, live: Live<'_>, cube: &[Lit]) -> Result<bool, AllocError> {
+    fn propagate(&mut self, live: Live<'_>, cube: &[Lit]) -> Result<bool, AllocError> {
         for x in cube {
             self.assume(*x)?;
         }
-        if self.look_at_units(live)? {
+        if self.visit_units(live)? {
             return Ok(true);
         }
         for i in 0..usize::MAX {
@@ -258,7 +262,7 @@ pub(crate) fn propagation_order(
 ) -> Result<Vec<u64>, AllocError> {
     let live = Live { images, numbers };
     let mut propagation = Propagation::new(alloc, places)?;
-    propagation.note_all(live)?;
-    let _ = propagation.run(live, cube)?;
+    propagation.add_occurrences(live)?;
+    let _ = propagation.propagate(live, cube)?;
     Ok(propagation.into_order())
 }

@@ -13,10 +13,11 @@ ghost use Rattle.proof_lift.specs.inner.Walks.{ImagesFit};
 use crate::counter_propagation::propagation_order;
 use crate::images::{Image, Images};
 use crate::literal_table::grow;
-use crate::live_numbers::{are_numbers, live_numbers};
+use crate::live_numbers::{live_numbers, numbers_fit};
 use crate::marks::join_cube;
-use crate::status::{Status, classify};
+use crate::status::classify;
 use dimacs::Lit;
+use lrat_check::Status;
 use std::alloc::{AllocError, Global};
 
 /// The result of a visit to clauses.
@@ -39,7 +40,8 @@ pub(crate) struct Reached {
 }
 
 impl Reached {
-    /// Makes a state in which the literals of the cube alone are true. The table has at least `places` cells.
+    /// Makes the state before propagation, in which the literals of the cube alone are true. The
+    /// table has at least `places` cells.
     fn of(alloc: Global, cube: &[Lit], places: usize) -> Result<Reached, AllocError>
         requires { FitsTable places cube.now }
         ensures reached { IfOk result (λ r. (T : ClauseImages) → IsReached T (negations (union cube.now [])) r) }
@@ -55,9 +57,10 @@ impl Reached {
         })
     }
 
-    /// Visits the image of the clause of this number. If the image is unit, its literal becomes true; if it is unit or false, the number
-    /// becomes a hint.
-    fn look(&mut self, images: &Images, number: u64) -> Result<Look, AllocError>
+    /// Visits the image of the clause of this number once. If the image is unit under the cube and
+    /// the literals so far, its literal becomes true; if it is unit or false, the number becomes a
+    /// hint.
+    fn visit(&mut self, images: &Images, number: u64) -> Result<Look, AllocError>
         requires number { IsClauseNumber number }
         requires fits { ImagesFit (vec_len self.old.truth) (images_of images.now) }
         ensures shifts { IfOk result (Shifts self.old self.new) }
@@ -81,7 +84,7 @@ impl Reached {
     }
 
     /// Visits the images of the clauses of these numbers in turn, and ends at one that is false.
-    fn pass(&mut self, images: &Images, numbers: &[u64]) -> Result<Look, AllocError>
+    fn visit_all(&mut self, images: &Images, numbers: &[u64]) -> Result<Look, AllocError>
         requires numbers { All IsClauseNumber numbers.now }
         requires fits { ImagesFit (vec_len self.old.truth) (images_of images.now) }
         ensures shifts { IfOk result (Shifts self.old self.new) }
@@ -89,7 +92,7 @@ impl Reached {
     {
         let mut moved = false;
         for number in numbers {
-            match self.look(images, *number)? {
+            match self.visit(images, *number)? {
                 Look::Conflict => return Ok(Look::Conflict),
                 Look::Moved => moved = true,
                 Look::Still => {}
@@ -99,13 +102,13 @@ impl Reached {
     }
 
     /// Makes passes over the clauses until one changes nothing. Tells whether a clause is false then.
-    fn settle(&mut self, images: &Images, numbers: &[u64]) -> Result<bool, AllocError>
+    fn propagate(&mut self, images: &Images, numbers: &[u64]) -> Result<bool, AllocError>
         requires numbers { All IsClauseNumber numbers.now }
         requires fits { ImagesFit (vec_len self.old.truth) (images_of images.now) }
         ensures { IfOk result (λ b. (A : Assumed) → IsReached (images_of images.now) A self.old → EndsAs (images_of images.now) A numbers.now self.new b) }
     {
         loop {
-            match self.pass(images, numbers)? {
+            match self.visit_all(images, numbers)? {
                 Look::Conflict => return Ok(true),
                 Look::Still => return Ok(false),
                 Look::Moved => {}
@@ -132,12 +135,12 @@ pub(crate) fn refuting_hints(
     let numbers = live_numbers(alloc, images)?;
     let order = propagation_order(alloc, images, &numbers, cube, places)?;
     let mut reached = Reached::of(alloc, cube, places)?;
-    if are_numbers(&order) {
-        if let Look::Conflict = reached.pass(images, &order)? {
+    if numbers_fit(&order) {
+        if let Look::Conflict = reached.visit_all(images, &order)? {
             return Ok(Some(reached.hints));
         }
     }
-    if reached.settle(images, &numbers)? {
+    if reached.propagate(images, &numbers)? {
         return Ok(Some(reached.hints));
     }
     Ok(None)

@@ -6,7 +6,7 @@ ghost use Rattle.dimacs.specs.logic.Literal.{Literal};
 ghost use Rattle.proof_lift.specs.LiftedText.{leaf_images, with_image};
 ghost use Rattle.proof_lift.specs.inner.Images.{image_in, images_of};
 
-use crate::lemma_images::{Lemmas, LogLemma};
+use crate::lemma_images::{LemmaImages, LogLemma};
 use dimacs::{Formula, Lit};
 use std::alloc::{AllocError, Global};
 
@@ -26,7 +26,7 @@ pub(crate) struct Images {
     pub(crate) formula: Formula,
     /// By number: whether the clause of the leaf's formula is live. Entry 0 is false.
     pub(crate) live: Vec<bool>,
-    pub(crate) lemmas: Lemmas,
+    pub(crate) lemmas: LemmaImages,
 }
 
 impl Drop for Images {
@@ -40,7 +40,7 @@ impl Drop for Images {
 }
 
 /// The flags of clauses 1 to `clauses`, all live; number 0 is not.
-fn all_live(alloc: Global, clauses: usize) -> Result<Vec<bool>, AllocError>
+fn live_flags(alloc: Global, clauses: usize) -> Result<Vec<bool>, AllocError>
     ensures { IfOk result (λ v. v.items ≡ false ∷ replicate clauses true) }
 {
     let mut live = Vec::new(alloc);
@@ -52,16 +52,17 @@ fn all_live(alloc: Global, clauses: usize) -> Result<Vec<bool>, AllocError>
 }
 
 impl Images {
-    /// Makes the images of a leaf's formula: the clauses of `formula` are their own images, and the `units` unit clauses after them have
-    /// none.
+    /// Makes the images of a leaf's formula. A clause of `formula` is its own image. The `units`
+    /// unit clauses after them, one for each literal of the cube, need none: they are true under
+    /// the cube.
     pub(crate) fn of(alloc: Global, formula: Formula, units: usize) -> Result<Images, AllocError>
         requires few { units < 2 ^ 62 }
         ensures stands { IfOk result (λ x. (q : List Literal) → length q ≡ units → images_of x ≡ leaf_images q formula) }
         ensures formula { IfOk result (λ x. x.formula ≡ formula) }
         ensures live { IfOk result (λ x. length x.live.items ≡ length formula.clauses + units + 1) }
     {
-        let live = all_live(alloc, formula.len() + units)?;
-        let lemmas = Lemmas::new(alloc)?;
+        let live = live_flags(alloc, formula.len() + units)?;
+        let lemmas = LemmaImages::new(alloc)?;
         Ok(Images {
             formula,
             live,
@@ -69,7 +70,8 @@ impl Images {
         })
     }
 
-    /// Returns the image of the clause of this number of the leaf's formula.
+    /// Returns the image of a clause of the leaf's formula: itself, or none for a unit clause of
+    /// the cube (`Gone`) and for a deleted clause (`None`).
     fn of_formula(&self, number: u64) -> Image<'_>
         requires { number < length self.now.live.items }
         ensures { image_in result ≡ images_of self.now number }
@@ -92,7 +94,7 @@ impl Images {
         self.lemmas.get(number)
     }
 
-    /// Returns the image of the clause of this foreign number.
+    /// Returns the image of a live foreign clause: of the leaf's formula, or of a lemma.
     pub(crate) fn get(&self, number: u64) -> Image<'_>
         ensures { image_in result ≡ images_of self.now number }
     {
@@ -113,7 +115,7 @@ impl Images {
         self.lemmas.put(number, own)
     }
 
-    /// Removes the clause of this foreign number, with its image.
+    /// Removes a foreign clause that the proof deletes, with its image.
     pub(crate) fn remove(&mut self, number: u64)
         ensures after { images_of self.new ≡ with_image (images_of self.old) number None }
         ensures formula { self.new.formula ≡ self.old.formula }

@@ -24,14 +24,15 @@ const MAPS: u64 = 8192;
 /// proofs numbers follow each other closely, so each map is small and a look-up takes a step or two. If all numbers have one remainder, it
 /// is a look-up in one map.
 #[derive(Drop)]
-pub(crate) struct Lemmas {
+pub(crate) struct LemmaImages {
     /// By remainder: the live lemmas of the foreign numbers with this remainder. `None` stands for a lemma that has a literal of the cube.
     pub(crate) maps: Vec<BTreeMap<u64, Option<LogLemma>>>,
 }
 
-/// Returns the index of a number's map: the remainder by 8,192.
+/// Returns the index of the map that holds a number: its remainder by 8,192. Many small maps are
+/// searched faster than one of all lemmas.
 #[inline(always)]
-fn place(number: u64) -> usize
+fn map_index(number: u64) -> usize
     ensures { result ≡ number % 8192 }
 {
     (number % MAPS) as usize
@@ -39,7 +40,7 @@ fn place(number: u64) -> usize
 
 /// Returns the image of the lemma of this number, looked up in the number's map.
 #[inline(always)]
-fn find(map: &BTreeMap<u64, Option<LogLemma>>, number: u64) -> Image<'_>
+fn find_in_map(map: &BTreeMap<u64, Option<LogLemma>>, number: u64) -> Image<'_>
     ensures { image_in result ≡ image_in_map (Some map.now) number }
 {
     match map.get(&number) {
@@ -50,7 +51,7 @@ fn find(map: &BTreeMap<u64, Option<LogLemma>>, number: u64) -> Image<'_>
 }
 
 /// Adds the image of the lemma of this number to the number's map, or replaces it.
-fn insert(
+fn insert_in_map(
     map: &mut BTreeMap<u64, Option<LogLemma>>,
     number: u64,
     own: Option<LogLemma>,
@@ -62,22 +63,22 @@ fn insert(
 }
 
 /// Removes the lemma of this number from the number's map.
-fn take(map: &mut BTreeMap<u64, Option<LogLemma>>, number: u64)
+fn remove_from_map(map: &mut BTreeMap<u64, Option<LogLemma>>, number: u64)
     ensures { image_in_map (Some map.new) ≡ with_image (image_in_map (Some map.old)) number None }
 {
     map.remove(&number);
 }
 
-impl Lemmas {
+impl LemmaImages {
     /// Makes a table without a lemma.
-    pub(crate) fn new(alloc: Global) -> Result<Lemmas, AllocError>
+    pub(crate) fn new(alloc: Global) -> Result<LemmaImages, AllocError>
         ensures { IfOk result (λ x. (n : ℕ) → lemma_images_of x n ≡ None) }
     {
         let mut maps = Vec::with_capacity(alloc, MAPS as usize)?;
         for _i in 0..MAPS {
             maps.push(BTreeMap::new(alloc))?;
         }
-        Ok(Lemmas { maps })
+        Ok(LemmaImages { maps })
     }
 
     /// Returns the image of the lemma of this foreign number; `Image::None` if there is none.
@@ -85,9 +86,9 @@ impl Lemmas {
     pub(crate) fn get(&self, number: u64) -> Image<'_>
         ensures { image_in result ≡ lemma_images_of self.now number }
     {
-        let place = place(number);
+        let place = map_index(number);
         if place < self.maps.len() {
-            find(&self.maps[place], number)
+            find_in_map(&self.maps[place], number)
         } else {
             Image::None
         }
@@ -97,20 +98,20 @@ impl Lemmas {
     pub(crate) fn put(&mut self, number: u64, own: Option<LogLemma>) -> Result<(), AllocError>
         ensures { OnOk result (lemma_images_of self.new ≡ with_image (lemma_images_of self.old) number (Some (image_of_lemma own))) }
     {
-        let place = place(number);
+        let place = map_index(number);
         if place >= self.maps.len() {
             return Err(AllocError);
         }
-        insert(&mut self.maps[place], number, own)
+        insert_in_map(&mut self.maps[place], number, own)
     }
 
     /// Removes the lemma of this foreign number, with its image.
     pub(crate) fn remove(&mut self, number: u64)
         ensures { lemma_images_of self.new ≡ with_image (lemma_images_of self.old) number None }
     {
-        let place = place(number);
+        let place = map_index(number);
         if place < self.maps.len() {
-            take(&mut self.maps[place], number);
+            remove_from_map(&mut self.maps[place], number);
         }
     }
 }

@@ -15,8 +15,9 @@ use crate::walk::{Conflict, Link};
 use dimacs::Lit;
 use std::alloc::{AllocError, Global};
 
-/// Gives the negation of each literal of the clause the stamp: it is used.
-fn use_all(marks: &mut [u64], stamp: u64, clause: &[Lit])
+/// Gives the negation of each literal of the conflict clause the stamp: these true literals are
+/// used, and the walk back looks for what made them true.
+fn mark_negations(marks: &mut [u64], stamp: u64, clause: &[Lit])
     requires table { FitsTable (length marks.old) clause.now }
     requires unused { AllBelow stamp marks.old }
     ensures used { marked marks.new stamp ≡ negations clause.now }
@@ -28,7 +29,8 @@ fn use_all(marks: &mut [u64], stamp: u64, clause: &[Lit])
     }
 }
 
-/// Takes the stamp from the unit literal, and gives it to the negations of the clause's other literals: these are used.
+/// Steps back over a unit clause whose literal is used: takes the stamp from that literal, and
+/// gives it to the negations of the clause's other literals, which made it unit.
 fn use_others(marks: &mut [u64], stamp: u64, clause: &[Lit], unit: Lit)
     requires table { FitsTable (length marks.old) clause.now }
     requires unit { index_of unit < length marks.old }
@@ -46,8 +48,9 @@ fn use_others(marks: &mut [u64], stamp: u64, clause: &[Lit], unit: Lit)
     }
 }
 
-/// Keeps a hint that is used: returns its number in the log, and gives the literals that its clause uses the stamp.
-fn count(images: &Images, marks: &mut [u64], stamp: u64, link: Link) -> u64
+/// Keeps a hint whose unit literal is used: returns its number in the log, and marks as used the
+/// literals that made its clause unit.
+fn keep_hint(images: &Images, marks: &mut [u64], stamp: u64, link: Link) -> u64
     requires table { IsPlaced (length marks.old) (passed_in (images_of images.now) link) }
     requires positive { 0 < stamp }
     requires below { AllBelow (stamp + 1) marks.old }
@@ -89,13 +92,13 @@ pub(crate) fn trim(
 {
     numbers.clear();
     numbers.push(conflict.number)?;
-    use_all(marks, stamp, conflict.clause);
+    mark_negations(marks, stamp, conflict.clause);
     let mut i = chain.len();
     while i > 0 {
         i -= 1;
         let link = chain[i];
         if is_marked(marks, stamp, link.unit) {
-            let number = count(images, marks, stamp, link);
+            let number = keep_hint(images, marks, stamp, link);
             numbers.push(number)?;
         }
     }
@@ -103,7 +106,7 @@ pub(crate) fn trim(
     Ok(())
 }
 
-/// Returns the literals of the clause whose negations are used.
+/// Returns the literals of the trimmed lemma: those whose negations, assumed at first, are used.
 pub(crate) fn kept_literals(
     alloc: Global,
     marks: &[u64],

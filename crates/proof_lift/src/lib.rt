@@ -18,6 +18,7 @@ mod lemma_images;
 mod lemma_trim;
 mod lifter;
 mod line_lifter;
+mod line_writer;
 mod literal_table;
 mod live_numbers;
 mod marks;

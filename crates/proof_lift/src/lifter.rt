@@ -73,8 +73,8 @@ impl Model for Lifter {
 }
 
 impl Lifter {
-    /// Makes a lifter that has taken no byte of a proof of the leaf's formula: the clauses of `formula`, and after them a unit clause for
-    /// each literal of the cube, in this order.
+    /// Makes a lifter that has taken no byte of a proof of the leaf's formula, with the variables that a log over the formula may have: the
+    /// clauses of `formula`, and after them a unit clause for each literal of the cube, in this order.
     pub fn of(alloc: Global, formula: Formula, cube: Vec<Lit>) -> Result<Lifter, AllocError>
         requires few { vec_len cube ≤ 1000000 }
         requires cube { IsCube formula cube.items }
@@ -116,7 +116,7 @@ impl Lifter {
         // what was written closes the cube, whatever came in
         ensures closes { OnOk result ((F : Cnf) (q : Cube) (bytes written : List ℕ) → IsFormula F → IsCube F q → HasTaken F q self bytes written → ClosesWith F q written out.old.items out.new.items) }
         // a refutation of the leaf's formula by reverse unit propagation alone is refused for want of memory alone
-        ensures complete { (F : Cnf) (q : Cube) (bytes written : List ℕ) → IsCube F q → HasTaken F q self bytes written → IsRefutation (leaf_of q F) bytes → (result ≡ Ok tt) ⊎ (result ≡ Err no_memory) }
+        ensures complete { (F : Cnf) (q : Cube) (bytes written : List ℕ) → F.vars ≤ 199999999 → IsCube F q → HasTaken F q self bytes written → IsRefutation (leaf_of q F) bytes → (result ≡ Ok tt) ⊎ (result ≡ Err no_memory) }
         // the first fault, and its line; 13 exactly if the empty lemma alone is missing, and no hints derive it
         ensures exact { GivesEnd self result out.old.items out.new.items }
     {
@@ -144,6 +144,7 @@ fn end(
     requires open { IsOpen rest.now }
     ensures { GivesEnd (Within (held_of lifting.old) line rest.now) result out.old.items out.new.items }
 {
+    let _ = lifting.images.formula.vars(); // for proofs: the formula is within its limits
     if !rest.is_empty() {
         return Err(CheckFault {
             number: 1,

@@ -1,9 +1,14 @@
 //! Lifts a foreign proof line by line.
 
+ghost use Rattle.std.specs.Prelude.{OnOk};
+ghost use Rattle.lrat_text.specs.Grammar.{IsStepWithin};
+ghost use Rattle.lrat_text.specs.Log.{log_top};
+ghost use Rattle.lrat_text.specs.Parser.{GivesStep, step_within};
+
 use crate::fault::step_refused;
 use crate::step_lifter::StepLifter;
 use lrat_check::CheckFault;
-use lrat_text::{StepBuffer, TakesLines, read_line};
+use lrat_text::{StepBuffer, TakesLines, TextFault, log_top, read_line_within};
 
 /// Takes the lines of a foreign proof, and appends the lines of the log to `out`.
 pub(crate) struct LineLifter {
@@ -26,6 +31,15 @@ impl Drop for LineLifter {
     }
 }
 
+/// Reads a line, with the variables that a log over the formula may have.
+fn read_step(lifting: &StepLifter, buffer: &mut StepBuffer, line: &[u8]) -> Result<(), TextFault>
+    ensures within { OnOk result (IsStepWithin 199999999 buffer.new) }
+    ensures exact { GivesStep buffer.new result (step_within (log_top lifting.now.images.formula) line.now) }
+{
+    let most = log_top(lifting.images.formula.as_base());
+    read_line_within(buffer, most, line)
+}
+
 impl TakesLines for LineLifter {
     ghost use Rattle.proof_lift.specs.inner.Lines.{MayTake, Takes, Refuses};
 
@@ -37,8 +51,10 @@ impl TakesLines for LineLifter {
 
     ghost refuses = { Refuses };
 
+    /// Reads the next line of the foreign proof, and lifts its step. After the empty lemma, lines
+    /// are read but not lifted.
     fn take_line(&mut self, line: &[u8]) -> Result<(), CheckFault> {
-        match read_line(&mut self.buffer, line) {
+        match read_step(&self.lifting, &mut self.buffer, line) {
             Ok(()) => {}
             Err(fault) => return Err(CheckFault::of_text(fault, self.line)),
         }

@@ -17,7 +17,7 @@ use std::collections::BTreeMap;
 pub(crate) const LIMIT: u64 = 1 << 48;
 
 /// Tells whether each number is at least 1 and below `LIMIT`.
-pub(crate) fn are_numbers(numbers: &[u64]) -> bool
+pub(crate) fn numbers_fit(numbers: &[u64]) -> bool
     ensures { OnTrue result (All IsClauseNumber numbers.now) }
 {
     for number in numbers {
@@ -28,8 +28,9 @@ pub(crate) fn are_numbers(numbers: &[u64]) -> bool
     true
 }
 
-/// Appends a foreign number if it is at least 1 and below `LIMIT`, and its clause has an image.
-fn put(images: &Images, number: u64, numbers: &mut Vec<u64>) -> Result<(), AllocError>
+/// Appends a foreign number if its clause has an image, so that it can be a hint; and if it is a
+/// clause number, at least 1 and below `LIMIT`.
+fn push_live(images: &Images, number: u64, numbers: &mut Vec<u64>) -> Result<(), AllocError>
     ensures { OnOk result (Lists (images_of images.now) (λ n. n ≡ number) numbers.old.items numbers.new.items) }
 {
     if number == 0 || number >= LIMIT {
@@ -41,7 +42,7 @@ fn put(images: &Images, number: u64, numbers: &mut Vec<u64>) -> Result<(), Alloc
     Ok(())
 }
 
-/// Appends those foreign numbers of a map's lemmas that have an image.
+/// Appends the foreign numbers of the lemmas in one map that have an image.
 fn put_lemmas(
     images: &Images,
     map: &BTreeMap<u64, Option<LogLemma>>,
@@ -50,7 +51,7 @@ fn put_lemmas(
     ensures { OnOk result (Lists (images_of images.now) (HasKey map.now) numbers.old.items numbers.new.items) }
 {
     for (number, _own) in map {
-        put(images, *number, numbers)?;
+        push_live(images, *number, numbers)?;
     }
     Ok(())
 }
@@ -60,7 +61,7 @@ fn put_formula(images: &Images, numbers: &mut Vec<u64>) -> Result<(), AllocError
     ensures { OnOk result (Lists (images_of images.now) (λ n. n < length images.now.live.items) numbers.old.items numbers.new.items) }
 {
     for number in 0..images.live.len() {
-        put(images, number as u64, numbers)?;
+        push_live(images, number as u64, numbers)?;
     }
     Ok(())
 }

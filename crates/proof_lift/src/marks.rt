@@ -33,7 +33,8 @@ pub(crate) fn assume_negations(marks: &mut [u64], stamp: u64, lits: &[Lit]) -> b
     false
 }
 
-/// Tells whether a clause has a literal of the cube; the negations of the clause's literals are marked.
+/// Tells whether a clause has a literal of the cube, so that it is true under the cube. The clause
+/// is given by marks on the negations of its literals.
 pub(crate) fn meets(marks: &[u64], stamp: u64, cube: &[Lit]) -> bool
     requires { FitsTable (length marks.now) cube.now }
     ensures { (C : Clause) → marked marks.now stamp ≡ negations C → result ≡ is_met cube.now C }
@@ -46,8 +47,9 @@ pub(crate) fn meets(marks: &[u64], stamp: u64, cube: &[Lit]) -> bool
     false
 }
 
-/// Appends to `clause` the negation of each literal of the cube that it does not hold, and marks this literal of the cube. The negations of
-/// the literals of `clause` are marked before and after.
+/// Adds the cube to a lemma: appends the negation of each literal of the cube that the clause does
+/// not have, and marks that literal of the cube as assumed. The negations of the literals of
+/// `clause` are marked before and after.
 pub(crate) fn join_cube(
     marks: &mut [u64],
     stamp: u64,

@@ -66,8 +66,9 @@ impl Scratch {
         self.reserve(places_for(lits))
     }
 
-    /// Propagates along the hints to a conflict, and walks back from it. Leaves in `numbers` the log's numbers of the hints that are used,
-    /// and returns those literals of `clause` that they use. `Err` with the fault of the walk along the hints.
+    /// Makes the image of a lemma: propagates along its hints to a conflict, and walks back from
+    /// it. Leaves in `numbers` the log's numbers of the hints that are used, and returns those
+    /// literals of `clause` that they use. `Err` with the fault of the walk along the hints.
     pub(crate) fn derive(
         &mut self,
         alloc: Global,

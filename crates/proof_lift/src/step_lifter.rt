@@ -4,7 +4,7 @@ ghost use Rattle.std.specs.Prelude.{◌≡◌, ◌<◌, ◌≤◌, ◌+◌, ◌*
 ghost use Rattle.std.specs.Bool.{MatchBool};
 ghost use Rattle.dimacs.specs.logic.Literal.{IsWithin};
 ghost use Rattle.lrat_check.specs.inner.LiteralTable.{FitsTable};
-ghost use Rattle.lrat_text.specs.Grammar.{IsStep};
+ghost use Rattle.lrat_text.specs.Grammar.{IsStepWithin};
 ghost use Rattle.lrat_text.specs.Steps.{step_of};
 ghost use Rattle.lrat_text.specs.declared.step.Step.TheVariants as owned;
 ghost use Rattle.proof_lift.specs.LiftedText.{lift_step, begun, after_deletion, own_numbers, all_live};
@@ -81,14 +81,14 @@ impl StepLifter {
         cube: Vec<Lit>,
     ) -> Result<StepLifter, AllocError>
         requires few { vec_len cube ≤ 1000000 }
-        requires within { All (IsWithin 2000000) cube.items }
+        requires within { All (IsWithin 199999999) cube.items }
         ensures begun { IfOk result (λ x. state_of x ≡ begun cube.items formula) }
         ensures ready { IfOk result (λ x. IsReady 1 x) }
         ensures formula { IfOk result (λ x. x.images.formula ≡ formula) }
         ensures cube { IfOk result (λ x. x.cube.items ≡ cube.items) }
     {
         // Called for its contract: a formula is within the limits.
-        formula.vars();
+        let _ = formula.vars();
         let own = formula.len();
         let top = own + cube.len();
         let scratch = begin_scratch(alloc, &formula, &cube)?;
@@ -104,8 +104,9 @@ impl StepLifter {
         })
     }
 
-    /// Removes the clauses of these foreign numbers, and leaves in `scratch.numbers` the log's numbers of those images that are lemmas.
-    /// `Err` if a number is not live.
+    /// Removes the clauses of these foreign numbers. Leaves in `scratch.numbers` the log's numbers
+    /// to delete: those of their images that are lemmas, since the log never deletes the formula's
+    /// clauses. `Err` if a number is not live.
     fn remove(&mut self, ids: &[u64]) -> Result<(), LineFault>
         ensures stands { OnOk result (images_of self.new.images ≡ after_deletion (images_of self.old.images) ids.now) }
         ensures numbers { OnOk result (self.new.scratch.numbers.items ≡ own_numbers (length self.old.images.formula.clauses) (images_of self.old.images) ids.now) }
@@ -114,14 +115,14 @@ impl StepLifter {
         ensures same { OnOk result (KeepsTables self.old self.new) }
         ensures counts { OnOk result ((self.new.top ≡ self.old.top) × (self.new.own ≡ self.old.own) × (self.new.closed ≡ self.old.closed)) }
     {
-        let own = self.images.formula.len() as u64;
+        let given = self.images.formula.len() as u64;
         self.scratch.numbers.clear();
         for id in ids {
             match self.images.get(*id) {
                 Image::None => return Err(LineFault::UnknownClause),
                 Image::Gone => {}
                 Image::Kept(number, _) => {
-                    if number > own {
+                    if number > given {
                         self.scratch.numbers.push(number)?;
                     }
                 }
@@ -151,7 +152,8 @@ impl StepLifter {
         Ok(())
     }
 
-    /// Writes the empty lemma if unit propagation over the live images finds a conflict under the cube. Tells whether it does.
+    /// Writes the empty lemma's image for a text that ends without one, if unit propagation over
+    /// the live images finds a conflict under the cube. Tells whether it does.
     pub(crate) fn close(&mut self, line: u64, out: &mut Vec<u8>) -> Result<bool, LineFault>
         requires ready { IsReady line self.old }
         ensures closed { IfOk result (λ b. MatchBool b (IsClosed self.old self.new out.old.items out.new.items) (NothingCloses self.old)) }
@@ -183,7 +185,7 @@ impl StepLifter {
         line: u64,
         out: &mut Vec<u8>,
     ) -> Result<(), LineFault>
-        requires limits { IsStep (step_of step) }
+        requires limits { IsStepWithin 199999999 (step_of step) }
         requires ready { IsReady line self.old }
         ensures writes { OnOk result (WritesAs (lift_step self.old.cube.items (length self.old.images.formula.clauses) (state_of self.old) (step_of step.entry)) (state_of self.old).own (state_of self.new) out.old.items out.new.items) }
         ensures refused { IfErr result (λ f. (f ≡ LineFault.NoMemory) ⊎ (lift_step self.old.cube.items (length self.old.images.formula.clauses) (state_of self.old) (step_of step.entry) ≡ Err (line_fault_number f))) }

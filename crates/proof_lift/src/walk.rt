@@ -8,8 +8,9 @@ ghost use Rattle.proof_lift.specs.inner.Walks.{ImagesFit, passed_by, Tells, from
 
 use crate::fault::LineFault;
 use crate::images::{Image, Images};
-use crate::status::{Status, classify};
+use crate::status::classify;
 use dimacs::Lit;
+use lrat_check::Status;
 
 /// A hint that was unit, by its foreign number, and its unit literal.
 #[derive(Clone, Copy)]

@@ -3,7 +3,7 @@ use Rattle.std.proofs.Common.{◌≡◌, ℕ, zero, suc, ◌+◌, ◌<◌, ◌�
 use Rattle.std.specs.List.{count_by}
 use Rattle.std.proofs.lemmas.List.{drop-drop, length-drop}
 use Rattle.std.proofs.lemmas.List.Sums.{sum_by-append, count_by-le-length}
-use Rattle.lrat_text.specs.Grammar.{LineSpells}
+use Rattle.lrat_text.specs.Grammar.{LineSpellsWithin}
 use Rattle.lrat_text.specs.Log.{additions}
 use Rattle.lrat_text.specs.declared.step.Step.{Step}
 use Rattle.lrat_text.specs.declared.step.Step.TheVariants.{Add, Delete}
@@ -47,10 +47,10 @@ pub lines_fit : (lines n here rest left : ℕ) (text : List ℕ) → n ≡ here 
 lines_fit lines n here rest left text e f g = let few : count_by is_lf text ≤ length text = count_by-le-length is_lf text in omega arith
 
 -- each step's line has an LF
-pub steps_few : (text : List ℕ) (steps : List Step) → LineSpells text steps → length steps ≤ count_by (λ b. b == 10) text
-steps_few text [] spelled = omega arith
-steps_few text (step ∷ steps) (own, rest, splits, one, spells, more) =
-    let later = steps_few rest steps more in
+pub steps_few : (most : ℕ) (text : List ℕ) (steps : List Step) → LineSpellsWithin most text steps → length steps ≤ count_by (λ b. b == 10) text
+steps_few most text [] spelled = omega arith
+steps_few most text (step ∷ steps) (own, rest, splits, one, spells, more) =
+    let later = steps_few most rest steps more in
     let lf_more : count_by is_lf (10 ∷ rest) ≡ 1 + count_by is_lf rest = sum_by-append (λ b. cond (is_lf b) 1 0) (10 ∷ []) rest in
     let whole : count_by is_lf text ≡ count_by is_lf own + (1 + count_by is_lf rest) =
     ap (λ (t : List ℕ). count_by is_lf t) splits ∙ sum_by-append (λ b. cond (is_lf b) 1 0) own (10 ∷ rest) ∙ ap (λ (k : ℕ). count_by is_lf own + k) lf_more in

@@ -1,25 +1,26 @@
-//! Trims a fragment, and checks what stays.
+//! Trimming a fragment: drops the lemmas that its last one does not need, and checks the result.
 
 ghost use Rattle.std.specs.Prelude.{◌<◌, ◌^◌, IfOk};
 ghost use Rattle.std.specs.Bool.{OnTrue};
 ghost use Rattle.lrat_text.specs.Log.{Closes};
 ghost use Rattle.proof_trim.specs.TrimmedFragment.{HasAtMostAdditions, Trims};
 
+use crate::line_reader::read;
 use crate::line_scan::count_lines;
 use crate::needs::Needs;
 use crate::reverse_lines::ReverseLines;
 use crate::rewriter::rewrite;
 use dimacs::{Base, Lit};
 use lrat_check::check_packed_fragment;
-use lrat_text::{StepBuffer, StepRef, TextFault, read_line};
+use lrat_text::{StepBuffer, StepRef, TextFault};
 use packed_text::PackedText;
 use std::alloc::{AllocError, Global};
 
-/// A fragment with fewer lemmas is not trimmed: it needs nearly all of them.
+/// The least number of lemmas of a fragment that is trimmed: a shorter one needs nearly all of its lemmas.
 const MANY: usize = 20_000;
 
-/// How many lemmas a fragment has, by the number of its last line: a search numbers lemmas without gaps after the base, and ends with a
-/// lemma. A count above the length of the text is of no search.
+/// Answers how many lemmas a fragment has, from the number of its last line: a search numbers lemmas without gaps after the base, and ends
+/// with a lemma. `None` if the last line is no addition or the count is above the text's length; then no search wrote the text.
 fn count_lemmas(
     alloc: Global,
     base: u64,
@@ -30,7 +31,7 @@ fn count_lemmas(
     if !lines.back()? {
         return Ok(None);
     }
-    read_line(buffer, lines.line())?;
+    read(buffer, lines.line())?;
     let StepRef::Add { id, .. } = buffer.as_ref() else {
         return Ok(None);
     };
@@ -41,7 +42,8 @@ fn count_lemmas(
     Ok(Some(count))
 }
 
-/// The fragment without the lemmas that its last one does not need, if it has many and at least a quarter of them go.
+/// Answers the fragment without the lemmas that its last one does not need. `None` if it has fewer than 20,000 lemmas, or if less than a
+/// quarter of them would go.
 fn shorter(alloc: Global, base: u64, text: &PackedText) -> Result<Option<PackedText>, TextFault>
     requires { base < 2 ^ 40 }
 {
@@ -61,7 +63,7 @@ fn shorter(alloc: Global, base: u64, text: &PackedText) -> Result<Option<PackedT
     Ok(Some(rewrite(alloc, &needs, &mut buffer, text)?))
 }
 
-/// Whether a text is a fragment that closes the cube, in at most `most` lines.
+/// Answers whether a text is a fragment that closes the cube, and has at most `most` lines.
 fn is_fragment(
     alloc: Global,
     base: &Base,
@@ -69,7 +71,7 @@ fn is_fragment(
     most: u64,
     text: &PackedText,
 ) -> Result<bool, AllocError>
-    ensures { IfOk result (λ is. OnTrue is (Closes base.now cube.now text.now × HasAtMostAdditions most text.now)) }
+    ensures { IfOk result (λ is. OnTrue is (Closes base.now cube.now text.now × HasAtMostAdditions base.now most text.now)) }
 {
     let lines = count_lines(alloc, text)?;
     if lines as u64 > most {
@@ -82,11 +84,11 @@ fn is_fragment(
     }
 }
 
-/// Trims a fragment: the lemmas that its last one does not need are left out, and the others are numbered without gaps.
+/// Trims a fragment: drops the lemmas that its last one does not need, and numbers the others without gaps.
 ///
 /// The answer is the fragment itself, or a shorter one of at most `most` lemmas that [`check_packed_fragment`] accepts; so how the needed
-/// lemmas are found does not have to be trusted. A fragment stays as it is if it has fewer than 20,000 lemmas, or if less than a quarter
-/// of them would go: the check of the rest would take more time than it saves. No text is unpacked whole.
+/// lemmas are found does not have to be trusted. A fragment stays as it is if it has fewer than 20,000 lemmas, or if less than a quarter of
+/// them would go: the check of the rest would take more time than it saves. No text is unpacked whole.
 pub fn trim(
     alloc: Global,
     base: &Base,

@@ -1,4 +1,4 @@
-//! What is found of lines without parsing them: whether one deletes, and how many there are.
+//! What is known of lines without parsing them: whether a line is a deletion, and how many lines a text has.
 
 ghost use Rattle.std.specs.Prelude.{◌≡◌, ◌==◌, count_by, IfOk};
 ghost use Rattle.lrat_text.specs.Grammar.{lf};
@@ -7,10 +7,10 @@ use memchr::memchr;
 use packed_text::PackedText;
 use std::alloc::{AllocError, Global};
 
-/// How many bytes are unpacked at once. It is even, since a packed byte holds two characters.
+/// The number of characters that are unpacked at once. It is even, since a packed byte holds two characters.
 const BLOCK: usize = 4096;
 
-/// Whether a line deletes clauses: the letter `d` follows its number.
+/// Answers whether a line is a deletion: the letter `d` follows its number.
 pub(crate) fn deletes(line: &[u8]) -> bool {
     let Some(space) = memchr(b' ', line) else {
         return false;
@@ -21,14 +21,14 @@ pub(crate) fn deletes(line: &[u8]) -> bool {
     }
 }
 
-/// How often a byte stands in a text.
+/// Counts how often a byte occurs in a text.
 fn count(text: &[u8], byte: u8) -> usize
     ensures { result ≡ count_by (λ b. b == byte) text.now }
 {
     text.iter().filter(|b| **b == byte).count()
 }
 
-/// Counts a text's lines by their LFs.
+/// Counts a text's LFs, which end its lines.
 pub(crate) fn count_lines(alloc: Global, text: &PackedText) -> Result<usize, AllocError>
     ensures { IfOk result (λ lines. lines ≡ count_by (λ b. b == lf) text.now) }
 {

@@ -3,19 +3,21 @@
 ghost use Rattle.std.specs.Prelude.{◌≡◌, ◌<◌, ◌^◌, All, IfSome, OnOk};
 ghost use Rattle.lrat_text.specs.Grammar.{IsClauseNumber};
 
+use crate::line_reader::read;
 use crate::line_scan::deletes;
 use crate::reverse_lines::ReverseLines;
-use lrat_text::{StepBuffer, StepRef, TextFault, read_line};
+use lrat_text::{StepBuffer, StepRef, TextFault};
 use packed_text::PackedText;
 use std::alloc::{AllocError, Global};
 use std::marker::Model;
 
-/// Which lemmas are needed, and under which numbers.
+/// Which lemmas of a fragment are needed, and their new numbers. Lemma i (index, from 0) has the number `base + 1 + i` in the fragment.
 #[derive(Drop)]
 pub(crate) struct Needs {
-    /// How many clauses the base has: the lemmas' numbers follow.
+    /// The number of clauses of the base.
     base: u64,
-    /// For each lemma its rank among the needed ones, from 1; or 0 if nothing needs it.
+    /// For each lemma its rank among the needed ones, from 1; 0 if no needed lemma needs it. Before `rank` is called, each needed lemma has
+    /// 1.
     ranks: Vec<u32>,
 }
 
@@ -30,8 +32,8 @@ impl Model for Needs {
 }
 
 impl Needs {
-    /// Marks what the last of `count` lemmas needs, itself included. `None` if nine tenths or more of the second half are needed, since
-    /// then trimming would gain little.
+    /// Marks the last of `count` lemmas and all that it needs. `None` if nine tenths or more of the second half are needed, since then
+    /// trimming would gain little.
     pub(crate) fn of(
         alloc: Global,
         base: u64,
@@ -56,7 +58,7 @@ impl Needs {
         Ok(Some(needs))
     }
 
-    /// How many clauses the base has.
+    /// Answers the number of clauses of the base.
     pub(crate) fn base(&self) -> u64
         ensures value { result ≡ self.now }
         ensures limit { result < 2 ^ 40 }
@@ -64,7 +66,7 @@ impl Needs {
         self.base
     }
 
-    /// Marks the lemma of this number as needed, if there is one.
+    /// Marks the lemma of this number as needed; the base's clauses need no mark.
     fn need(&mut self, number: u64) {
         if number <= self.base {
             return;
@@ -75,7 +77,8 @@ impl Needs {
         }
     }
 
-    /// Goes back through the lines, from the lemma before the place `from` to that at `to`, and marks what the needed ones need.
+    /// Goes back through the lines of the lemmas of indices `from - 1` down to `to`, and marks the
+    /// hints of each needed one as needed: they come earlier, so one pass finds all.
     fn trace(
         &mut self,
         buffer: &mut StepBuffer,
@@ -90,8 +93,9 @@ impl Needs {
         Ok(())
     }
 
-    /// Marks what a line needs, if it adds a needed lemma: the last one before `place`. Answers the place after the next lemma on the way
-    /// to the front.
+    /// Takes the next line on the way back: marks the hints of its lemma as needed, if the lemma
+    /// is. `place` is the number of lemmas up to and with this line; the answer is the number
+    /// before it. A deletion counts none.
     fn trace_line(
         &mut self,
         buffer: &mut StepBuffer,
@@ -105,7 +109,7 @@ impl Needs {
             return Ok(place);
         }
         if self.has(own) {
-            read_line(buffer, line)?;
+            read(buffer, line)?;
             if let StepRef::Add { hints, .. } = buffer.as_ref() {
                 for &hint in hints {
                     self.need(hint);
@@ -115,7 +119,7 @@ impl Needs {
         Ok(own)
     }
 
-    /// How many lemmas are needed from a place on.
+    /// Counts the lemmas from index `place` on that are marked as needed.
     fn count_from(&self, place: usize) -> usize {
         let mut count = 0usize;
         for i in place..self.ranks.len() {
@@ -126,7 +130,8 @@ impl Needs {
         count
     }
 
-    /// Ranks the needed lemmas from 1, and answers how many there are.
+    /// Gives each needed lemma its rank among them, from 1, by which it is renumbered, and answers
+    /// how many there are.
     pub(crate) fn rank(&mut self) -> usize {
         let mut needed = 0u32;
         for i in 0..self.ranks.len() {
@@ -138,12 +143,13 @@ impl Needs {
         needed as usize
     }
 
-    /// Whether the lemma at a place is needed.
+    /// Answers whether the lemma of index `place` is needed.
     pub(crate) fn has(&self, place: usize) -> bool {
         place < self.ranks.len() && self.ranks[place] != 0
     }
 
-    /// The new number of a clause, if the clause stays.
+    /// Answers the new number of a clause: a clause of the base keeps its number, a needed lemma's is `base` and its rank. `None` if the
+    /// clause is dropped.
     pub(crate) fn number(&self, number: u64) -> Option<u64>
         requires { IsClauseNumber number }
         ensures { IfSome result IsClauseNumber }
@@ -158,7 +164,7 @@ impl Needs {
         }
     }
 
-    /// Replaces `out` by the new numbers of those clauses that stay.
+    /// Overwrites `out` with the new numbers of those of these clauses that stay.
     pub(crate) fn numbers(&self, numbers: &[u64], out: &mut Vec<u64>) -> Result<(), AllocError>
         requires { All IsClauseNumber numbers.now }
         ensures { OnOk result (All IsClauseNumber out.new.items) }

@@ -8,10 +8,10 @@ use packed_text::PackedText;
 use std::alloc::{AllocError, Global};
 use std::marker::Model;
 
-/// How many bytes are unpacked at once; more if a line is longer.
+/// The number of characters that are unpacked at once; more if a line is longer.
 const BLOCK: usize = 4096;
 
-/// Where the last line of a text begins, if an LF precedes it; an LF at the text's end belongs to that line.
+/// Answers the offset at which the last line of a text begins, if an LF precedes it. An LF at the text's end belongs to that line.
 fn last_begin(text: &[u8]) -> Option<usize>
     ensures { IfSome result (λ begin. begin < length text.now) }
 {
@@ -24,8 +24,9 @@ fn last_begin(text: &[u8]) -> Option<usize>
     }
 }
 
-/// Unpacks the block before a place, and again the `begun` bytes after it, of the line that the place cuts. The block is at least as long
-/// as these, so the cost is linear in the line's length.
+/// Unpacks the block before offset `from`, and again the `begun` bytes after it, the part of a line
+/// that the block's end cuts. It moves `from` to the beginning of the block. The block is at least
+/// as long as that part, so the cost is linear in the line's length.
 fn block_before(
     alloc: Global,
     text: &PackedText,
@@ -41,19 +42,21 @@ fn block_before(
     text.read(alloc, *from, more.saturating_add(begun))
 }
 
-/// A cursor that goes back through the lines of a packed text. The text is unpacked block by block, from its end on. Contracts see the
-/// number of bytes before the present line.
+/// A cursor that goes back through the lines of a packed text. The text is unpacked block by block, from its end on. The cursor's value is
+/// the number of bytes before the present line.
 #[derive(Drop)]
 pub(crate) struct ReverseLines<'t> {
+    /// The allocator for the block.
     alloc: Global,
+    /// The whole text.
     text: &'t PackedText,
-    /// Where the block begins in the text.
+    /// The offset in the text at which the block begins.
     from: usize,
     /// The block that was unpacked last.
     block: Vec<u8>,
-    /// Where the line begins in the block.
+    /// The offset in the block at which the present line begins.
     begin: usize,
-    /// Where the line ends in the block.
+    /// The offset in the block of the end of the present line, before its LF.
     end: usize,
 }
 
@@ -68,7 +71,7 @@ impl<'t> Model for ReverseLines<'t> {
 }
 
 impl<'t> ReverseLines<'t> {
-    /// A cursor after the last line. It takes no memory.
+    /// A cursor after the last line. It allocates nothing.
     pub(crate) fn of(alloc: Global, text: &'t PackedText) -> ReverseLines<'t> {
         ReverseLines {
             alloc,
@@ -80,7 +83,7 @@ impl<'t> ReverseLines<'t> {
         }
     }
 
-    /// Goes back by one line, if there is one.
+    /// Goes back by one line. Answers `false` if there is no line before.
     pub(crate) fn back(&mut self) -> Result<bool, AllocError>
         ensures { IfOk result (λ some. OnTrue some (self.new < self.old)) }
     {
@@ -99,7 +102,7 @@ impl<'t> ReverseLines<'t> {
         Ok(true)
     }
 
-    /// The present line, without its LF.
+    /// Lends the present line, without its LF.
     pub(crate) fn line(&self) -> &[u8] {
         &self.block[self.begin..self.end]
     }

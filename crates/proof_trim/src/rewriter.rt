@@ -1,25 +1,28 @@
-//! Writes the lines that stay, with the new numbers of clauses.
+//! The writer of the trimmed fragment: the lines that stay, with the new numbers of clauses.
 
 ghost use Rattle.std.specs.Prelude.{◌≡◌};
-ghost use Rattle.lrat_text.specs.Grammar.{IsStep};
+ghost use Rattle.lrat_text.specs.Grammar.{IsStepWithin};
 ghost use Rattle.lrat_text.specs.Steps.{step_of};
 
+use crate::line_reader::read;
 use crate::line_scan::deletes;
 use crate::needs::Needs;
-use lrat_text::{Groups, StepBuffer, StepRef, TextFault, read_line};
+use lrat_text::{Groups, StepBuffer, StepRef, TextFault};
 use packed_text::{PackedLines, PackedText};
 use std::alloc::{AllocError, Global};
 use std::marker::Model;
 
-/// The text written so far, and buffers.
+/// The text written so far, and buffers that are used again from line to line.
 struct Rewriter {
+    /// The text written so far.
     out: PackedText,
-    /// A buffer for a line before it is packed.
+    /// The buffer for a line before it is packed.
     written: Vec<u8>,
-    /// The number at the front of a deletion's line: that of the last lemma.
+    /// The number of the last lemma that was written, with which a deletion's line begins.
     top: u64,
-    /// A buffer for the new numbers of a line.
+    /// The buffer for the new numbers of a line.
     numbers: Vec<u64>,
+    /// An empty list: the lemmas of a fragment have no groups.
     groups: Groups,
 }
 
@@ -47,7 +50,7 @@ impl Model for Rewriter {
 }
 
 impl Rewriter {
-    /// The text written.
+    /// Hands over the text that was written.
     fn into_text(self) -> PackedText
         ensures { result ≡ self }
     {
@@ -61,9 +64,9 @@ impl Rewriter {
         out
     }
 
-    /// Appends a step's line, if it stays.
+    /// Appends the line of a step with its new numbers. A dropped lemma, and a deletion of dropped lemmas only, give no line.
     fn put(&mut self, needs: &Needs, step: StepRef<'_>) -> Result<(), AllocError>
-        requires { IsStep (step_of step) }
+        requires { IsStepWithin 199999999 (step_of step) }
     {
         match step {
             StepRef::Add {
@@ -82,7 +85,7 @@ impl Rewriter {
                     hints: &self.numbers,
                     groups: &self.groups,
                 };
-                self.out.put(line, id, &mut self.written)?;
+                self.out.put_within(line, id, &mut self.written)?;
                 self.top = id;
                 Ok(())
             }
@@ -92,25 +95,25 @@ impl Rewriter {
                     return Ok(());
                 }
                 let line = StepRef::Delete { ids: &self.numbers };
-                self.out.put(line, self.top, &mut self.written)
+                self.out.put_within(line, self.top, &mut self.written)
             }
         }
     }
 
-    /// Parses a line, and appends what stays of it.
+    /// Parses a line, and appends it with its new numbers if it stays.
     fn put_line(
         &mut self,
         needs: &Needs,
         buffer: &mut StepBuffer,
         line: &[u8],
     ) -> Result<(), TextFault> {
-        read_line(buffer, line)?;
+        read(buffer, line)?;
         self.put(needs, buffer.as_ref())?;
         Ok(())
     }
 }
 
-/// The fragment with the needed lemmas alone.
+/// Answers the fragment with the needed lemmas alone, under their new numbers.
 pub(crate) fn rewrite(
     alloc: Global,
     needs: &Needs,

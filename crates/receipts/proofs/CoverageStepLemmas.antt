@@ -16,10 +16,11 @@ use Rattle.dimacs.specs.logic.ClauseMap.{map_of}
 use Rattle.dimacs.specs.logic.Cnf.{Cnf}
 use Rattle.dimacs.specs.logic.Literal.{Clause, Literal, IsTautology, IsWithin, var_of}
 use Rattle.icnf.specs.Leaves.{Cube}
-use Rattle.lrat_text.specs.Grammar.{IsClauseNumber, IsGroup, IsStep}
-use Rattle.lrat_text.specs.Log.{IsLogStep}
+use Rattle.lrat_text.specs.Grammar.{IsClauseNumber, IsGroup, IsStepWithin}
+use Rattle.lrat_text.specs.Log.{IsLogStep, log_top}
 use Rattle.lrat_text.specs.Runs.{after_steps, top_of}
 use Rattle.lrat_text.specs.declared.step.Step.{Step}
+use Rattle.lrat_text.proofs.LineLemmas.{step_more}
 use Rattle.proof_join.specs.RenumberedSteps.{behind, renumbered}
 use Rattle.log_join.specs.ClosedLeaves.{Leaf, can_close, closes, settled}
 use Rattle.log_join.specs.JoinedLogs.{JoinState, Handed, joined_so_far}
@@ -87,12 +88,31 @@ pub large_closes_none : (cubes : List Cube) (clauses : List Clause) (C : Clause)
 large_closes_none cubes clauses C c h l i great q j = great_closes_none q C l (All-contains (All (IsWithin 2000000)) cubes q h.within j) i great
 
 -- ---- numbers
+-- the step as it is handed over
+pub step_is : (C : Clause) → All (IsWithin 2000000) C → IsStepWithin 2000000 (line_for C)
+step_is C small =
+    let id : IsClauseNumber 2 = (omega arith, omega arith) in
+    let hint : IsClauseNumber 1 = (omega arith, omega arith) in
+    (id, small, All-cons IsClauseNumber 1 [] hint (All-nil IsClauseNumber), All-nil IsGroup)
+
+pub step_wide : (groups : List Group) (C : Clause) → groups ≡ [] → All (IsWithin 2000000) C → IsStepWithin 199999999 (Add 2 C (1 ∷ []) groups)
+step_wide groups C none small =
+    subst (λ (gs : List Group). IsStepWithin 199999999 (Add 2 C (1 ∷ []) gs)) (sym none) (step_more 2000000 199999999 (omega arith) (line_for C) (step_is C small))
+
+-- it is within the limits of the logs over any formula
+step_of_log : (F : Cnf) (C : Clause) → All (IsWithin 2000000) C → IsStepWithin (log_top F) (line_for C)
+step_of_log F C small =
+    let more : 2000000 ≤ log_top F = omega arith in
+    step_more 2000000 (log_top F) more (line_for C) (step_is C small)
+
 -- the step fits into a line, as long as its number does
-pub step_fits : (top : ℕ) (C : Clause) → All (IsWithin 2000000) C → top + 1 < 2 ^ 48 → IsStep (renumbered (behind 1 top) (line_for C))
+pub step_fits : (top : ℕ) (C : Clause) → All (IsWithin 2000000) C → top + 1 < 2 ^ 48 → IsStepWithin 199999999 (renumbered (behind 1 top) (line_for C))
 step_fits top C small few =
     let id : IsClauseNumber (behind 1 top 2) = (omega arith, omega arith) in
     let hint : IsClauseNumber (behind 1 top 1) = (omega arith, omega arith) in
-    (id, small, All-cons IsClauseNumber (behind 1 top 1) [] hint (All-nil IsClauseNumber), All-nil IsGroup)
+    let fits : IsStepWithin 2000000 (renumbered (behind 1 top) (line_for C)) =
+    (id, small, All-cons IsClauseNumber (behind 1 top 1) [] hint (All-nil IsClauseNumber), All-nil IsGroup) in
+    step_more 2000000 199999999 (omega arith) (renumbered (behind 1 top) (line_for C)) fits
 
 -- ---- one clause is handed over: what the four calls of the gatherer promise, from one to the next
 abbrev pub Begins : LogJoiner → LogJoiner → Type 0
@@ -100,7 +120,7 @@ Begins old new = (F : Cnf) (cubes : List Cube) (logs : List Handed) (written : L
 
 abbrev pub TakesLine : LogJoiner → LogJoiner → Step → List ℕ → Type 0
 TakesLine old new step more = (F : Cnf) (cubes : List Cube) (logs : List Handed) (log : List Step) (written : List ℕ) → WithinLog F cubes logs log old written
-    → IsLogStep (length F.clauses) (after_steps (map_of F) log) (top_of (length F.clauses) log) step → WithinLog F cubes logs (log ++ step ∷ []) new (written ++ more)
+    → IsLogStep (length F.clauses) (after_steps (map_of F) log) (top_of (length F.clauses) log) step → IsStepWithin (log_top F) step → WithinLog F cubes logs (log ++ step ∷ []) new (written ++ more)
 
 abbrev pub SettlesAt : LogJoiner → LogJoiner → ℕ → Clause → Type 0
 SettlesAt old new number C = (F : Cnf) (cubes : List Cube) (logs : List Handed) (log : List Step) (n : ℕ) (written : List ℕ)
@@ -111,10 +131,10 @@ abbrev pub EndsLog : LogJoiner → LogJoiner → List ℕ → Type 0
 EndsLog old new more = (F : Cnf) (cubes : List Cube) (logs : List Handed) (h : Handed) (n : ℕ) (written : List ℕ) → AtLogEnd F cubes logs h n old written
     → ((k : ℕ) → n ≤ k → get (after_steps (map_of F) h.steps) k ≡ None) → BetweenLogs F cubes (logs ++ h ∷ []) new (written ++ more)
 
-module _ (cubes : List Cube) (clauses : List Clause) (C : Clause) (none : ¬ (IsTautology C)) (old : Coverage) (h : HasTakenClauses cubes clauses old) (g1 g2 : LogJoiner) (more : List ℕ)
+module _ (cubes : List Cube) (clauses : List Clause) (C : Clause) (small : All (IsWithin 2000000) C) (none : ¬ (IsTautology C)) (old : Coverage) (h : HasTakenClauses cubes clauses old) (g1 g2 : LogJoiner) (more : List ℕ)
     (begins : Begins old.joiner g1) (takes : TakesLine g1 g2 (line_for C) more) where
   pub put_within : WithinLog absurdity cubes h.logs (log_for C) g2 (h.written ++ more)
-  put_within = takes absurdity cubes h.logs [] h.written (begins absurdity cubes h.logs h.written h.between) (follows C none)
+  put_within = takes absurdity cubes h.logs [] h.written (begins absurdity cubes h.logs h.written h.between) (follows C none) (step_of_log absurdity C small)
 
   pub put_covers : (new : Coverage) (g3 : LogJoiner) (last : List ℕ) → SettlesAt g2 g3 2 C → EndsLog g3 new.joiner last → HasTakenClauses cubes (clauses ++ C ∷ []) new
   put_covers new g3 last settles ends =
@@ -132,11 +152,11 @@ module _ (cubes : List Cube) (clauses : List Clause) (C : Clause) (none : ¬ (Is
 
 -- ---- as long as there are numbers left
 pub many_line : (cubes : List Cube) (clauses : List Clause) (C : Clause) (old : Coverage) (h : HasTakenClauses cubes clauses old) (g : LogJoiner) (groups : List Group) → WithinLog absurdity cubes h.logs [] g h.written
-    → All (IsWithin 2000000) C → groups ≡ [] → ¬ (IsStep (renumbered (behind g.base g.begun) (Add 2 C (1 ∷ []) groups))) → 2 ^ 48 ≤ length clauses + 2
+    → All (IsWithin 2000000) C → groups ≡ [] → ¬ (IsStepWithin 199999999 (renumbered (behind g.base g.begun) (Add 2 C (1 ∷ []) groups))) → 2 ^ 48 ≤ length clauses + 2
 many_line cubes clauses C old h g groups w small none long = elim (cases_lt ((joined_so_far absurdity cubes h.logs).top + 1) (2 ^ 48)) [
-  | inl few ↦ absurd (long (subst (λ (n : ℕ). IsStep (renumbered (behind n g.begun) (Add 2 C (1 ∷ []) groups))) (sym w.stands.base)
-      (subst (λ (n : ℕ). IsStep (renumbered (behind 1 n) (Add 2 C (1 ∷ []) groups))) (sym w.begun)
-      (subst (λ (gs : List Group). IsStep (renumbered (behind 1 (joined_so_far absurdity cubes h.logs).top) (Add 2 C (1 ∷ []) gs))) (sym none)
+  | inl few ↦ absurd (long (subst (λ (n : ℕ). IsStepWithin 199999999 (renumbered (behind n g.begun) (Add 2 C (1 ∷ []) groups))) (sym w.stands.base)
+      (subst (λ (n : ℕ). IsStepWithin 199999999 (renumbered (behind 1 n) (Add 2 C (1 ∷ []) groups))) (sym w.begun)
+      (subst (λ (gs : List Group). IsStepWithin 199999999 (renumbered (behind 1 (joined_so_far absurdity cubes h.logs).top) (Add 2 C (1 ∷ []) gs))) (sym none)
       (step_fits (joined_so_far absurdity cubes h.logs).top C small few)))))
   | inr many ↦ let low = h.top in omega arith
 ]

@@ -9,8 +9,9 @@ use Rattle.log_join.specs.JoinedLogs.{live_from}
 use Rattle.lrat_check.specs.Logs.{log_end, log_of}
 use Rattle.lrat_check.specs.declared.line_checker.CheckFault.{CheckFault}
 use Rattle.lrat_check.proofs.LogLines.{HasTakenLog, log_ends}
-use Rattle.lrat_text.specs.Grammar.{LineSpells}
+use Rattle.lrat_text.specs.Grammar.{LineSpellsWithin}
 use Rattle.lrat_text.specs.Lines.{IsOpen}
+use Rattle.lrat_text.specs.Log.{log_top}
 use Rattle.lrat_text.specs.Runs.{after_steps}
 use Rattle.lrat_text.specs.declared.step.Step.{Step}
 use Rattle.sha2.specs.Sha256.{sha256}
@@ -57,7 +58,7 @@ ended F bytes r rest result h same bare e =
 -- ---- the contents of its receipt
 pub record IsEnded (F : Cnf) (cubes : List Cube) (bytes : List ℕ) (r : ReceiptBuilder) : Type 0 where
   pub steps : List Step
-  pub spells : LineSpells bytes steps
+  pub spells : LineSpellsWithin (log_top F) bytes steps
   pub taken : HasTakenLog F bytes steps r.checker r.begun
 
 pub well_ended : (F : Cnf) (cubes : List Cube) (bytes : List ℕ) (r : ReceiptBuilder) (rest : List ℕ) → IsLogSoFar F bytes r → rest ≡ r.begun → log_end r.checker rest ≡ Ok tt → IsEnded F cubes bytes r

@@ -11,8 +11,8 @@ use Rattle.lrat_check.specs.Logs.{IsBegun, LogState, TakesLogLine, log_end, log_
 use Rattle.lrat_check.specs.declared.line_checker.CheckFault.{CheckFault}
 use Rattle.lrat_check.specs.inner.LogStates.{RefusesAndKeeps}
 use Rattle.lrat_check.proofs.LogLines.{HasTakenLog, hands_more, hands_piece, log_stops, log_taken}
-use Rattle.lrat_text.specs.Log.{additions}
-use Rattle.lrat_text.specs.Grammar.{LineSpells}
+use Rattle.lrat_text.specs.Log.{additions, log_top}
+use Rattle.lrat_text.specs.Grammar.{LineSpellsWithin}
 use Rattle.lrat_text.specs.declared.step.Step.{Step}
 use Rattle.lrat_text.specs.LineSink.{HandsOn, LineRefused, PieceStops}
 use Rattle.lrat_text.specs.declared.line_splitter.PieceFault.{PieceFault}
@@ -22,7 +22,7 @@ use Rattle.std.proofs.lemmas.List.Elements.{All-nil}
 use Rattle.lrat_text.proofs.PieceLemmas.{cut_more}
 use Rattle.log_join.specs.ClosedLeaves.{Numbered}
 use Rattle.log_join.specs.JoinedLogs.{live_from, with_live}
-use Rattle.log_join.proofs.PlacedLemmas.{log_top}
+use Rattle.log_join.proofs.PlacedLemmas.{counted_top}
 use Rattle.receipts.specs.ClosedLeaves.{closes_new_leaf, closing_of}
 use Rattle.receipts.specs.LogReceipt.{HasLogFault, IsLogSoFar}
 use Rattle.receipts.specs.declared.receipt_builder.ReceiptBuilder.{ReceiptBuilder}
@@ -82,12 +82,12 @@ line_met F first bytes s line piece t fault b h (m, rest, bad, later, handed, cu
 
 -- ---- the end
 pub ended_well : (F : Cnf) (first : LogState) (bytes : List ℕ) (t : LogState) (rest : List ℕ) → IsBegun F first → HandsOn TakesLogLine first bytes t rest → log_end t rest ≡ Ok tt
-    → (steps : List Step) × LineSpells bytes steps × HasTakenLog F bytes steps t rest
+    → (steps : List Step) × LineSpellsWithin (log_top F) bytes steps × HasTakenLog F bytes steps t rest
 ended_well F first bytes t rest b h e =
     let r = log_taken F first bytes t rest b h in
     let none : rest ≡ [] = at rest e in
     let same : bytes ≡ r.1.front = r.1.whole ∙ ap (λ (x : List ℕ). r.1.front ++ x) none ∙ append-nil r.1.front in
-    (r.0, subst (λ (x : List ℕ). LineSpells x r.0) (sym same) r.1.spelled, r.1)
+    (r.0, subst (λ (x : List ℕ). LineSpellsWithin (log_top F) x r.0) (sym same) r.1.spelled, r.1)
   where
     at : (xs : List ℕ) → log_end t xs ≡ Ok tt → xs ≡ []
     at [] e = refl
@@ -95,7 +95,7 @@ ended_well F first bytes t rest b h e =
 
 pub count_is : (F : Cnf) (bytes rest : List ℕ) (steps : List Step) (t : LogState) → HasTakenLog F bytes steps t rest → t.top - t.base ≡ additions steps
 count_is F bytes rest steps t h =
-    let e = log_top (length F.clauses) (map_of F) (length F.clauses) steps h.log in
+    let e = counted_top (length F.clauses) (map_of F) (length F.clauses) steps h.log in
     let a = h.top in
     let b = h.base in
     omega arith

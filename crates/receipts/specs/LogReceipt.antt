@@ -7,8 +7,8 @@ use Rattle.log_join.specs.JoinedLogs.{ClosesLeaf, live_from}
 use Rattle.icnf.specs.Leaves.{Cube}
 use Rattle.lrat_check.specs.Logs.{IsBegun, LogState, TakesLogLine, log_of}
 use Rattle.lrat_check.specs.declared.line_checker.CheckFault.{CheckFault}
-use Rattle.lrat_text.specs.Grammar.{LineSpells}
-use Rattle.lrat_text.specs.Log.{IsLog, additions}
+use Rattle.lrat_text.specs.Grammar.{LineSpellsWithin}
+use Rattle.lrat_text.specs.Log.{IsLog, additions, log_top}
 use Rattle.lrat_text.specs.Runs.{after_steps}
 use Rattle.lrat_text.specs.LineSink.{HandsOn}
 use Rattle.lrat_text.specs.declared.step.Step.{Step}
@@ -30,7 +30,7 @@ closing_lemmas F cubes log = closing_of cubes [] (live_lemmas F log)
 -- the receipt of a text: the text is a log over the formula, and closes a leaf of the tree
 pub record IsReceiptOf (F : Cnf) (cubes : List Cube) (text : List ℕ) (r : ReceiptContents) : Type 0 where
   pub steps : List Step
-  pub spells : LineSpells text steps
+  pub spells : LineSpellsWithin (log_top F) text steps
   pub is_log : IsLog F steps
   pub formula : r.formula ≡ formula_digest F
   pub log : r.log ≡ sha256 text
@@ -42,7 +42,7 @@ pub record IsReceiptOf (F : Cnf) (cubes : List Cube) (text : List ℕ) (r : Rece
 -- the text is a log over the formula, but no lemma that is live at its end closes a leaf of the tree
 pub record ClosesNone (F : Cnf) (cubes : List Cube) (text : List ℕ) : Type 0 where
   pub steps : List Step
-  pub spells : LineSpells text steps
+  pub spells : LineSpellsWithin (log_top F) text steps
   pub is_log : IsLog F steps
   pub none : closing_lemmas F cubes steps ≡ []
 
@@ -73,4 +73,4 @@ pub record HasReadLog (F : Cnf) (cubes : List Cube) (bytes : List ℕ) (r : Rece
 
 -- formula, files, cube of the leaf: one of the files is a log over the formula that closes the leaf
 abbrev pub IsClosedByLog : Cnf → List (List ℕ) → Cube → Type 0
-IsClosedByLog F files q = (text : List ℕ) × (steps : List Step) × Contains files text × LineSpells text steps × IsLog F steps × ClosesLeaf F q steps
+IsClosedByLog F files q = (text : List ℕ) × (steps : List Step) × Contains files text × LineSpellsWithin (log_top F) text steps × IsLog F steps × ClosesLeaf F q steps

@@ -66,7 +66,8 @@ fn unread_kind(fault: ReceiptFault) -> Result<TextKind, CoverFault>
     }
 }
 
-/// Answers whether at least one of the two holds.
+/// Answers whether at least one of the two holds. Unlike `||`, it evaluates both arguments, so that
+/// each lemma is taken.
 fn either(one: bool, other: bool) -> bool
     ensures { result ≡ (one || other) }
 {

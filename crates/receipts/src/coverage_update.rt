@@ -23,7 +23,8 @@ const MAX_VAR: u32 = 2_000_000;
 /// The number of a clause in its log of one line: the number after that of the formula's one clause.
 const NUMBER: u64 = 2;
 
-/// The fault of a cover whose joiner has refused a clause with this fault.
+/// The fault of a cover whose joiner has refused a clause: `TooMany` if no number is left for it,
+/// and else a want of memory.
 fn cover_fault(fault: LogJoinFault) -> CoverFault
     ensures { result ≡ CoverFault.TooMany → fault ≡ LogJoinFault.TooLong }
 {
@@ -33,7 +34,7 @@ fn cover_fault(fault: LogJoinFault) -> CoverFault
     }
 }
 
-/// Answers whether each variable of a clause is at most `MAX_VAR`.
+/// Answers whether each variable of a clause is at most `MAX_VAR`, as in a line of LRAT text.
 fn is_small(clause: &[Lit]) -> bool
     ensures small { result ≡ true → All (IsWithin 2000000) clause.now }
     ensures none { result ≡ false → (l : Literal) × Contains clause.now l × (2000000 < var_of l) }
@@ -47,7 +48,8 @@ fn is_small(clause: &[Lit]) -> bool
 }
 
 impl Coverage {
-    /// A coverage that has taken no clause: each leaf of the tree is open.
+    /// A coverage that has taken no clause: each leaf of the tree is open. The tautology checker
+    /// has the empty clause alone, number 1, by which every clause follows that is no tautology.
     pub(crate) fn of(alloc: Global, tree: &Tree) -> Result<Coverage, AllocError>
         requires { AreWithin 2000000 tree.now }
         ensures { IfOk result (HasTakenClauses tree.now []) }
@@ -63,7 +65,9 @@ impl Coverage {
         })
     }
 
-    /// Takes a clause. Answers whether it closes a leaf that no clause before it closes. After an Err the coverage is of no use.
+    /// Takes a clause. Answers whether it closes a leaf that no clause before it closes; a
+    /// tautology, and a clause that no line can have, close none. After an Err the coverage is of
+    /// no use.
     pub(crate) fn add(&mut self, clause: &[Lit]) -> Result<bool, CoverFault>
         ensures covers { OnOk result ((cubes : List Cube) (clauses : List Clause) → HasTakenClauses cubes clauses self.old → HasTakenClauses cubes (clauses ++ clause.now ∷ []) self.new) }
         ensures told { IfOk result (λ b. (cubes : List Cube) (clauses : List Clause) → HasTakenClauses cubes clauses self.old → b ≡ closes_new_leaf cubes clauses clause.now) }
@@ -79,7 +83,8 @@ impl Coverage {
         self.put(clause)
     }
 
-    /// Takes a clause that is no tautology and has no variable above `MAX_VAR`; any other clause closes no leaf. Answers whether the clause
+    /// Takes a clause that is no tautology and has no variable above `MAX_VAR`, as a log of this
+    /// one lemma: the joiner of logs keeps which leaves are closed. Answers whether the clause
     /// closes a leaf that no clause before it closes.
     fn put(&mut self, clause: &[Lit]) -> Result<bool, CoverFault>
         requires small { All (IsWithin 2000000) clause.now }

@@ -11,7 +11,7 @@ use itoa::Buffer;
 use sha2::{Digest, Sha256};
 use std::alloc::{AllocError, Global};
 
-/// A hasher that has taken the header line of a formula's DIMACS text.
+/// A hasher (SHA-256) that has taken the header line of a formula's DIMACS text.
 fn header_of(formula: &Formula) -> Sha256
     ensures { Holds256 result (header_text formula.now ++ codes "\n") }
 {

@@ -40,7 +40,8 @@ fn lemma_of_step(
     Ok(Some(ClosingLemma { id, clause }))
 }
 
-/// Answers None for a line that is no LRAT line, and so has no lemma; Err if memory was refused.
+/// Answers None for a line that is no LRAT line, which is a fault of the receipt; Err if memory was
+/// refused.
 fn unread(fault: TextFault) -> Result<Option<ClosingLemma>, AllocError>
     ensures { IfOk result (λ found. (fault ≢ TextFault.NoMemory) × (found ≡ None)) }
 {

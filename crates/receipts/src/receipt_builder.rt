@@ -62,7 +62,7 @@ impl Drop for ReceiptBuilder {
     }
 }
 
-/// Builds a closing lemma of this number, with a copy of the clause.
+/// Makes the entry of a closing lemma: its number, and a copy of its clause.
 fn lemma(alloc: Global, id: u64, clause: &[Lit]) -> Result<ClosingLemma, AllocError>
     requires numbered { IsClauseNumber id }
     requires small { All (IsWithin 2000000) clause.now }
@@ -72,7 +72,8 @@ fn lemma(alloc: Global, id: u64, clause: &[Lit]) -> Result<ClosingLemma, AllocEr
     Ok(ClosingLemma { id, clause })
 }
 
-/// Answers `NoMemory` if the coverage has refused a lemma, also for `TooMany` (2^48 clauses).
+/// Answers `NoMemory` if the coverage has refused a lemma. `TooMany`, 2^48 clauses, does not fit
+/// into memory either.
 fn build_fault(_fault: CoverFault) -> BuildFault
     ensures { result ≡ BuildFault.NoMemory }
 {
@@ -159,7 +160,8 @@ impl ReceiptBuilder {
         })
     }
 
-    /// Checks the lines that a piece completes, and hashes its bytes. Err is the log's first fault, or memory was refused.
+    /// Checks the lines that are complete with a piece, and hashes its bytes. Err is the log's
+    /// first fault, or memory was refused.
     fn read(&mut self, piece: &[u8]) -> Result<(), CheckFault>
         ensures reads { OnOk result ((F : Cnf) (bytes : List ℕ) → IsLogSoFar F bytes self.old → IsLogSoFar F (bytes ++ piece.now) self.new) }
         ensures met { IfErr result (λ fault. (F : Cnf) (bytes : List ℕ) → IsLogSoFar F bytes self.old → HasLogFault F (bytes ++ piece.now) fault) }

@@ -1,9 +1,9 @@
--- What is printed if there is no report.
+-- The line that is printed of a run that has no report.
 use Rattle.std.specs.Prelude.{ℕ, Bool, true, false, List, [], codes}
 use Rattle.reports.specs.declared.refusal.Refusal.{Refusal}
 use Rattle.reports.specs.declared.refusal.Refusal.TheVariants.{Usage, Input, Cubes, Proof, Links, Writing, NoMemory}
 
--- the line of a refusal
+-- the line of a refusal without `-q`
 abbrev pub loud_text : Refusal → List ℕ
 loud_text Usage = codes "c usage\n"
 loud_text Input = codes "c cannot read input\n"
@@ -13,7 +13,7 @@ loud_text Links = codes "c cannot open links\n"
 loud_text Writing = codes "c cannot write proof\n"
 loud_text NoMemory = codes "c no memory\n"
 
--- what is printed of it: `-q` leaves out every line but that of words which are refused
+-- the line of a refusal: `-q` (`quiet` is true) leaves out every line except the one of refused words
 abbrev pub refusal_text : Refusal → Bool → List ℕ
 refusal_text Usage quiet = loud_text Usage
 refusal_text refusal true = []

@@ -1,4 +1,4 @@
-//! What is printed of an input and of cubes that are refused.
+//! The lines that are printed of a faulty input and of refused cubes.
 
 ghost use Rattle.std.specs.Prelude.{◌≡◌, ◌++◌, OnErr, OnOk, IfOk, None, decimal};
 ghost use Rattle.dimacs.specs.text.Grammar.{Begins};
@@ -10,7 +10,7 @@ use icnf::IcnfFault;
 use itoa::Buffer;
 use std::alloc::{AllocError, Global};
 
-/// Appends a number in decimal. Where memory is refused, `out` is as before.
+/// Appends a number in decimal. If memory is refused, `out` is unchanged.
 pub fn put_number(out: &mut Vec<u8>, number: u64) -> Result<(), AllocError>
     ensures ok { OnOk result (out.new.items ≡ out.old.items ++ decimal number) }
     ensures err { OnErr result (out.new.items ≡ out.old.items) }
@@ -20,6 +20,7 @@ pub fn put_number(out: &mut Vec<u8>, number: u64) -> Result<(), AllocError>
     out.extend_from_slice(text.as_bytes())
 }
 
+/// Appends `place`, the number `at`, ` fault `, the number of the fault and LF. If memory is refused, `out` may have some of it.
 fn put_words(out: &mut Vec<u8>, place: &[u8], at: u64, number: u8) -> Result<(), AllocError>
     ensures ok { OnOk result (out.new.items ≡ out.old.items ++ fault_at place.now at number) }
     ensures begins { Begins out.old.items out.new.items }
@@ -31,7 +32,7 @@ fn put_words(out: &mut Vec<u8>, place: &[u8], at: u64, number: u8) -> Result<(),
     out.extend_from_slice(b"\n")
 }
 
-/// Appends where a fault is, and its number. Where memory is refused, `out` is as before.
+/// Appends `place`, the number `at`, ` fault `, the number of the fault and LF. If memory is refused, `out` is unchanged.
 fn put_fault_at(out: &mut Vec<u8>, place: &[u8], at: u64, number: u8) -> Result<(), AllocError>
     ensures ok { OnOk result (out.new.items ≡ out.old.items ++ fault_at place.now at number) }
     ensures err { OnErr result (out.new.items ≡ out.old.items) }
@@ -44,7 +45,7 @@ fn put_fault_at(out: &mut Vec<u8>, place: &[u8], at: u64, number: u8) -> Result<
     written
 }
 
-/// Appends `line L fault N` and LF. Where memory is refused, `out` is as before.
+/// Appends `line L fault N` and LF. If memory is refused, `out` is unchanged.
 pub fn put_fault(out: &mut Vec<u8>, line: u64, number: u8) -> Result<(), AllocError>
     ensures ok { OnOk result (out.new.items ≡ out.old.items ++ fault_text line number) }
     ensures err { OnErr result (out.new.items ≡ out.old.items) }
@@ -52,7 +53,7 @@ pub fn put_fault(out: &mut Vec<u8>, line: u64, number: u8) -> Result<(), AllocEr
     put_fault_at(out, b"line ", line, number)
 }
 
-/// Appends `step K fault N` and LF. Where memory is refused, `out` is as before.
+/// Appends `step K fault N` and LF. If memory is refused, `out` is unchanged.
 pub fn put_step_fault(out: &mut Vec<u8>, step: u64, number: u8) -> Result<(), AllocError>
     ensures ok { OnOk result (out.new.items ≡ out.old.items ++ step_fault_text step number) }
     ensures err { OnErr result (out.new.items ≡ out.old.items) }
@@ -60,7 +61,7 @@ pub fn put_step_fault(out: &mut Vec<u8>, step: u64, number: u8) -> Result<(), Al
     put_fault_at(out, b"step ", step, number)
 }
 
-/// The report of a fault of the input.
+/// The report of an input with this fault.
 pub fn faulty_input(alloc: Global, fault: DimacsFault) -> Result<Report, AllocError>
     ensures text { IfOk result (λ r. r.stdout.items ≡ input_fault_text fault) }
     ensures status { IfOk result (λ r. r.status ≡ 1) }
@@ -71,7 +72,7 @@ pub fn faulty_input(alloc: Global, fault: DimacsFault) -> Result<Report, AllocEr
     Ok(report)
 }
 
-/// The report of cubes that are no iCNF text.
+/// The report of cubes with this fault.
 pub fn faulty_cubes(alloc: Global, fault: IcnfFault) -> Result<Report, AllocError>
     ensures text { IfOk result (λ r. r.stdout.items ≡ cubes_fault_text fault) }
     ensures status { IfOk result (λ r. r.status ≡ 1) }

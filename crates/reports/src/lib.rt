@@ -1,4 +1,4 @@
-//! What a run comes to: a report, with its text, its exit status and its proof; or a refusal, with its line.
+//! The outcome of a run: a report, with its text, its exit status and its proof; or a refusal, with its line.
 #![tactic(auto)]
 
 mod faults;

@@ -1,4 +1,4 @@
-//! Why a run has no report, and the line that is printed then.
+//! The refusals of a run: why it has no report, and the line that is printed then.
 
 ghost use Rattle.std.specs.Prelude.{◌≡◌};
 ghost use Rattle.reports.specs.Refusals.{refusal_text};
@@ -18,12 +18,12 @@ pub enum Refusal {
     Links,
     /// The proof that was found cannot be written.
     Writing,
-    /// A growth was refused.
+    /// Memory was refused.
     NoMemory,
 }
 
 impl Refusal {
-    /// The line that is printed, ended by LF. `-q` leaves out every one but `c usage`.
+    /// The line that is printed, ended by LF. `quiet` is the flag `-q`: it leaves out every line except `c usage`.
     pub fn line(self, quiet: bool) -> &'static str
         ensures { result.now ≡ refusal_text self quiet }
     {

@@ -1,11 +1,11 @@
-//! What a run prints, and its exit status.
+//! The report of a run: what it prints, and its exit status.
 
 ghost use Rattle.std.specs.Prelude.{◌≡◌, IfOk, None};
 
 use packed_text::PackedText;
 use std::alloc::{AllocError, Global};
 
-/// The outcome of a run.
+/// The report of a run.
 #[derive(Drop)]
 pub struct Report {
     /// What is printed, each line ended by LF.
@@ -17,7 +17,7 @@ pub struct Report {
 }
 
 impl Report {
-    /// A report of this text.
+    /// A report of this text and this exit status, without a proof.
     pub fn of(alloc: Global, text: &[u8], status: u8) -> Result<Report, AllocError>
         ensures text { IfOk result (λ r. r.stdout.items ≡ text.now) }
         ensures status { IfOk result (λ r. r.status ≡ status) }

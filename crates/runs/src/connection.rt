@@ -28,8 +28,8 @@ pub struct Connection<P> {
 }
 
 impl<P: Peer> Connection<P> {
-    /// Sends a frame to the worker, lets it answer, and delivers the frame that it sends back to the coordinator. Answers why the link is
-    /// broken, if it is.
+    /// Makes the four steps of a turn: sends a frame to the worker, lets it answer, receives its
+    /// frame, and delivers that to the coordinator. Answers why the link is broken, if it is.
     fn exchange<L: Links>(
         &mut self,
         links: &mut L,
@@ -40,9 +40,13 @@ impl<P: Peer> Connection<P> {
         ensures goes_on { GoesOn coordinator.old coordinator.new }
         ensures verdict { OnErr result (coordinator.new.verdict ≡ coordinator.old.verdict) }
         ensures open { self.new.is_open ≡ self.old.is_open }
+        // At least the send; at most the send, 4,037 receives of a byte each, and the worker's
+        // calls.
         ensures calls { RoseWithin 1 (4038 + P.most) (L.call_count links.old) (L.call_count links.new) }
         // The frame that is delivered was received, and so was the frame that the worker took.
         ensures received { OnOk result (RoseBy (1 + P.least self.old.peer + one_if_none self.old.inbox.waiting.items) (L.call_count links.old) (L.call_count links.new)) }
+        // At most one call is refused, over this worker's link alone, and only if the result is
+        // `Err`.
         ensures refusals { Refuses L.refusal_count L.refused_at worker (one_if_err result) 0 links.old links.new }
     {
         send(links, End::Coordinator(worker.number()), frame)?;
@@ -63,8 +67,10 @@ impl<P: Peer> Connection<P> {
     ) -> Result<(), AllocError>
         requires { IsWorker coordinator.old worker }
         ensures goes_on { GoesOn coordinator.old coordinator.new }
+        // At most a send, 4,037 receives of a byte each, and the worker's calls.
         ensures calls { RoseWithin 0 (4038 + P.most) (L.call_count links.old) (L.call_count links.new) }
         ensures turned { OnOk result (HasTurned P.least (L.call_count links.old) (L.call_count links.new) coordinator.old.verdict coordinator.new.verdict self.old self.new) }
+        // Only calls over this worker's link are refused, and at most one, which closes the link.
         ensures refusals { Refuses L.refusal_count L.refused_at worker (one_if_open self.old.is_open) (one_if_open self.new.is_open) links.old links.new }
     {
         if !self.is_open {

@@ -1,7 +1,8 @@
 //! The calls of the coordinator's functions that runs make, with the contracts that they need of them.
 
-ghost use Rattle.std.specs.Prelude.{◌≡◌, ◌≤◌, ℕ, All, OnErr, IfOk, true};
+ghost use Rattle.std.specs.Prelude.{◌≡◌, ◌<◌, ◌≤◌, ℕ, All, OnErr, IfOk, true};
 ghost use Rattle.dimacs.specs.logic.Cnf.{Cnf};
+ghost use Rattle.dimacs.specs.logic.Literal.{IsWithin};
 ghost use Rattle.cube_split.specs.Pairs.{IsBaseWith};
 ghost use Rattle.evidence.specs.Jobs.{IsOverBase};
 ghost use Rattle.coordinator_core.specs.Coordinator.{IsWorker};
@@ -25,6 +26,7 @@ pub(crate) fn begin(
     plan: &CoordinatorPlan,
 ) -> Result<Coordinator, AllocError>
     requires inside { (B : Cnf) → IsBaseWith opened.formula opened.definitions.wanted B → All (IsOverBase B) tree }
+    requires narrow { 1000000 < opened.formula.vars → All (All (IsWithin 2000000)) tree }
     requires workers { (1 ≤ plan.now.workers) × (plan.now.workers ≤ 64) }
     ensures { IfOk result (Begins opened.formula plan.now.workers) }
 {

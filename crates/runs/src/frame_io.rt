@@ -19,6 +19,7 @@ pub(crate) const ROUNDS: u64 = 1_000_000;
 pub(crate) fn send<L: Links>(links: &mut L, from: End, frame: &Frame) -> Result<(), Broken>
     requires { link_of from ≤ 64 }
     ensures calls { RoseWithin 1 1 (L.call_count links.old) (L.call_count links.new) }
+    // At most one call is refused, over this worker's link alone, and only if the result is `Err`.
     ensures refusals { Refuses L.refusal_count L.refused_at (link_of from) (one_if_err result) 0 links.old links.new }
 {
     let mut room = [0u8; LONGEST];
@@ -35,6 +36,7 @@ pub(crate) fn send<L: Links>(links: &mut L, from: End, frame: &Frame) -> Result<
 fn receive_some<L: Links>(links: &mut L, at: End, inbox: &mut Inbox) -> Result<(), Broken>
     requires { link_of at ≤ 64 }
     ensures calls { RoseWithin 1 1 (L.call_count links.old) (L.call_count links.new) }
+    // At most one call is refused, over this worker's link alone, and only if the result is `Err`.
     ensures refusals { Refuses L.refusal_count L.refused_at (link_of at) (one_if_err result) 0 links.old links.new }
 {
     let mut room = [0u8; LONGEST];
@@ -48,7 +50,9 @@ fn receive_some<L: Links>(links: &mut L, at: End, inbox: &mut Inbox) -> Result<(
 /// least one byte, so 4037 of them are enough. Answers why the link is broken, if it is.
 pub(crate) fn receive<L: Links>(links: &mut L, at: End, inbox: &mut Inbox) -> Result<Frame, Broken>
     requires { link_of at ≤ 64 }
+    // At most 4,037 receives, of a byte each; at least one if no frame waits.
     ensures calls { RoseWithin (one_if_none inbox.old.waiting.items) 4037 (L.call_count links.old) (L.call_count links.new) }
+    // At most one call is refused, over this worker's link alone, and only if the result is `Err`.
     ensures refusals { Refuses L.refusal_count L.refused_at (link_of at) (one_if_err result) 0 links.old links.new }
 {
     for _ in 0..LONGEST {

@@ -1,7 +1,8 @@
 //! The run of a coordinator and its workers in one process.
 
-ghost use Rattle.std.specs.Prelude.{◌≡◌, ◌≤◌, ◌+◌, ◌*◌, All, IfOk, length};
+ghost use Rattle.std.specs.Prelude.{◌≡◌, ◌<◌, ◌≤◌, ◌+◌, ◌*◌, All, IfOk, length};
 ghost use Rattle.dimacs.specs.logic.Cnf.{Cnf};
+ghost use Rattle.dimacs.specs.logic.Literal.{IsWithin};
 ghost use Rattle.cube_split.specs.Pairs.{IsBaseWith};
 ghost use Rattle.evidence.specs.Jobs.{IsOverBase};
 ghost use Rattle.lrat_check.specs.Verdicts.{Right};
@@ -73,6 +74,7 @@ pub fn solve<L: Links>(
     links: &mut L,
 ) -> Result<Verdict, AllocError>
     requires inside { (B : Cnf) → IsBaseWith formula plan.now.defs B → All (IsOverBase B) tree }
+    requires narrow { 1000000 < formula.vars → All (All (IsWithin 2000000)) tree }
     requires workers { (1 ≤ plan.now.workers) × (plan.now.workers ≤ 64) }
     requires defs { plan.now.defs ≤ 64 }
     ensures right { IfOk result (Right formula) }
@@ -85,8 +87,9 @@ pub fn solve<L: Links>(
     solve_of(alloc, opened, tree, plan, links)
 }
 
-/// Runs a coordinator and its workers as `solve` does, for a formula whose preamble is known: the preamble's definitions count, and not
-/// those of the plan. An error is want of memory.
+/// Runs a coordinator and its workers over links between them, for a formula whose preamble is
+/// known: the preamble's definitions count, and not those of the plan. Answers the verdict, or
+/// `Nothing`. An error is want of memory.
 pub fn solve_of<L: Links>(
     alloc: Global,
     opened: Opened,
@@ -95,6 +98,7 @@ pub fn solve_of<L: Links>(
     links: &mut L,
 ) -> Result<Verdict, AllocError>
     requires inside { (B : Cnf) → IsBaseWith opened.formula opened.definitions.wanted B → All (IsOverBase B) tree }
+    requires narrow { 1000000 < opened.formula.vars → All (All (IsWithin 2000000)) tree }
     requires workers { (1 ≤ plan.now.workers) × (plan.now.workers ≤ 64) }
     ensures right { IfOk result (Right opened.formula) }
     ensures used { IfOk result (HasBegun (L.call_count links.old) (L.call_count links.new)) }

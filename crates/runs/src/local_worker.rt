@@ -49,7 +49,10 @@ impl LocalWorker {
     ) -> Result<(), Broken>
         ensures formula { self.new.worker.formula ≡ self.old.worker.formula }
         ensures verdict { IfErr result (λ b. (b ≡ NoMemory) ⊎ (self.new.worker.verdict ≡ self.old.worker.verdict)) }
+        // At most 4,037 receives, of a byte each; at least one if no frame waits.
         ensures calls { RoseWithin (one_if_none self.old.inbox.waiting.items) 4037 (L.call_count links.old) (L.call_count links.new) }
+        // At most one call is refused, over this worker's link alone, and only if the result is
+        // `Err`.
         ensures refusals { Refuses L.refusal_count L.refused_at number (one_if_err result) 0 links.old links.new }
     {
         let frame = receive(links, End::Worker(number.number()), &mut self.inbox)?;
@@ -78,6 +81,8 @@ impl LocalWorker {
         ensures inbox { self.new.inbox ≡ self.old.inbox }
         ensures calls { RoseWithin 0 1 (L.call_count links.old) (L.call_count links.new) }
         ensures one { RoseUnless result 1 (L.call_count links.old) (L.call_count links.new) }
+        // At most one call is refused, over this worker's link alone, and only if the result is
+        // `Err`.
         ensures refusals { Refuses L.refusal_count L.refused_at number (one_if_err result) 0 links.old links.new }
     {
         let frame = poll(&mut self.worker)?;

@@ -42,7 +42,8 @@ impl Pace {
         self.order
     }
 
-    /// Counts a frame that the worker has sent.
+    /// Counts a frame that the worker has sent: a beat grows with the number of Pieces that the
+    /// last answer took.
     pub(crate) fn note(&mut self, frame: &Frame) {
         self.sent = self.sent.saturating_add(1);
         self.is_idle = matches!(frame, Frame::Idle { .. });
@@ -53,7 +54,8 @@ impl Pace {
         }
     }
 
-    /// Tells whether the worker searches in this round. Only the beginning of a search waits for a beat.
+    /// Tells whether the worker searches in this round: always if its last frame was no Idle, and
+    /// else once a beat, since only the beginning of a search takes long.
     pub(crate) fn is_due(&self) -> bool {
         !self.is_idle || self.sent % self.beat() == 0
     }

@@ -29,6 +29,8 @@ pub(crate) trait Peer {
     fn answer<L: Links>(&mut self, links: &mut L, number: WorkerNumber) -> Result<(), Broken>
         ensures calls { RoseWithin 0 most (L.call_count links.old) (L.call_count links.new) }
         ensures least { OnOk result (RoseBy (least self.old) (L.call_count links.old) (L.call_count links.new)) }
+        // At most one call is refused, over this worker's link alone, and only if the result is
+        // `Err`.
         ensures refusals { Refuses L.refusal_count L.refused_at number (one_if_err result) 0 links.old links.new };
 
     /// Lets the coordinator share the bytes of evidence that the worker holds, so that they are in memory once.
@@ -55,12 +57,15 @@ impl Peer for RemoteWorker {
 
     const HANDS_OUT: bool = true;
 
+    /// Does nothing: a worker of another process takes the frame and sends one by itself.
     fn answer<L: Links>(&mut self, _links: &mut L, _number: WorkerNumber) -> Result<(), Broken> {
         Ok(())
     }
 
+    /// Does nothing: the worker's evidence is in the memory of another process.
     fn share(&self, _coordinator: &mut Coordinator, _number: WorkerNumber) {}
 
+    /// Does nothing: the worker's inbox is in another process.
     fn clear(&mut self) {}
 
     ghost earned = { λ _. inl refl };

@@ -1,8 +1,9 @@
 //! The run of a coordinator whose workers are in other processes.
 
-ghost use Rattle.std.specs.Prelude.{◌≡◌, ◌≤◌, ◌+◌, ◌*◌, length, All, IfOk, OnOk, OnErr, true};
+ghost use Rattle.std.specs.Prelude.{◌≡◌, ◌<◌, ◌≤◌, ◌+◌, ◌*◌, length, All, IfOk, OnOk, OnErr, true};
 ghost use Rattle.coordinator_core.specs.Coordinator.{IsWorker};
 ghost use Rattle.dimacs.specs.logic.Cnf.{Cnf};
+ghost use Rattle.dimacs.specs.logic.Literal.{IsWithin};
 ghost use Rattle.cube_split.specs.Pairs.{IsBaseWith};
 ghost use Rattle.evidence.specs.Jobs.{IsOverBase};
 ghost use Rattle.lrat_check.specs.Verdicts.{Right};
@@ -57,7 +58,9 @@ fn receive_first<L: Links>(
 ) -> Result<(), Broken>
     ensures goes_on { GoesOn coordinator.old coordinator.new }
     ensures verdict { coordinator.new.verdict ≡ coordinator.old.verdict }
+    // At most 4,037 receives, of a byte each; at least one if no frame waits.
     ensures calls { RoseWithin (one_if_none inbox.old.waiting.items) 4037 (L.call_count links.old) (L.call_count links.new) }
+    // At most one call is refused, over this worker's link alone, and only if the result is `Err`.
     ensures refusals { Refuses L.refusal_count L.refused_at worker (one_if_err result) 0 links.old links.new }
 {
     let frame = receive(links, End::Coordinator(worker.number()), inbox)?;
@@ -80,7 +83,9 @@ fn handshake<L: Links>(
     requires new { IsNew connection.old }
     ensures goes_on { GoesOn coordinator.old coordinator.new }
     ensures verdict { coordinator.new.verdict ≡ coordinator.old.verdict }
+    // At least one receive, and at most 4,037, of a byte each.
     ensures calls { RoseWithin 1 4037 (L.call_count links.old) (L.call_count links.new) }
+    // Only calls over this worker's link are refused, and at most one, which closes the link.
     ensures refusals { Refuses L.refusal_count L.refused_at worker (one_if_open connection.old.is_open) (one_if_open connection.new.is_open) links.old links.new }
 {
     match receive_first(links, coordinator, worker, &mut connection.inbox) {
@@ -102,6 +107,7 @@ fn handshake_all<L: Links>(
     requires new { All IsNew connections.old }
     ensures goes_on { GoesOn coordinator.old coordinator.new }
     ensures verdict { coordinator.new.verdict ≡ coordinator.old.verdict }
+    // At most 4,037 receives for each connection.
     ensures calls { RoseWithin 1 (4037 * length connections.old) (L.call_count links.old) (L.call_count links.new) }
     ensures refusals { Closing L.refusal_count L.refused_at links.old links.new connections.old connections.new }
 {
@@ -144,6 +150,7 @@ pub fn serve<L: Links>(
     links: &mut L,
 ) -> Result<Verdict, AllocError>
     requires inside { (B : Cnf) → IsBaseWith formula plan.now.defs B → All (IsOverBase B) tree }
+    requires narrow { 1000000 < formula.vars → All (All (IsWithin 2000000)) tree }
     requires workers { (1 ≤ plan.now.workers) × (plan.now.workers ≤ 64) }
     requires defs { plan.now.defs ≤ 64 }
     ensures right { IfOk result (Right formula) }
@@ -156,8 +163,9 @@ pub fn serve<L: Links>(
     serve_of(alloc, opened, tree, plan, links)
 }
 
-/// Runs a coordinator as `serve` does, for a formula whose preamble is known: the preamble's definitions count, and not those of the plan.
-/// An error is want of memory.
+/// Runs a coordinator over the links of its workers, for a formula whose preamble is known: the
+/// preamble's definitions count, and not those of the plan. Answers the verdict, or `Nothing`. An
+/// error is want of memory.
 pub fn serve_of<L: Links>(
     alloc: Global,
     opened: Opened,
@@ -166,6 +174,7 @@ pub fn serve_of<L: Links>(
     links: &mut L,
 ) -> Result<Verdict, AllocError>
     requires inside { (B : Cnf) → IsBaseWith opened.formula opened.definitions.wanted B → All (IsOverBase B) tree }
+    requires narrow { 1000000 < opened.formula.vars → All (All (IsWithin 2000000)) tree }
     requires workers { (1 ≤ plan.now.workers) × (plan.now.workers ≤ 64) }
     ensures right { IfOk result (Right opened.formula) }
     ensures used { IfOk result (HasBegun (L.call_count links.old) (L.call_count links.new)) }

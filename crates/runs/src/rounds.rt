@@ -25,6 +25,7 @@ fn round<P: Peer, L: Links>(
     requires connections { length connections.old ≤ length coordinator.old.jobs }
     requires workers { length coordinator.old.jobs ≤ 64 }
     ensures goes_on { GoesOn coordinator.old coordinator.new }
+    // For each connection at most a send, 4,037 receives, and the worker's calls.
     ensures calls { RoseWithin 0 ((4038 + P.most) * length connections.old) (L.call_count links.old) (L.call_count links.new) }
     ensures some { 1 ≤ open_count connections.old → IfOk result (λ over. (over ≡ true) ⊎ RoseBy 1 (L.call_count links.old) (L.call_count links.new)) }
     ensures over { IfOk result (λ over. over ≡ true → IsOver P.HANDS_OUT coordinator.new) }
@@ -57,6 +58,7 @@ pub(crate) fn run_rounds<P: Peer, L: Links>(
     requires connections { length connections.old ≤ length coordinator.old.jobs }
     requires workers { length coordinator.old.jobs ≤ 64 }
     ensures goes_on { GoesOn coordinator.old coordinator.new }
+    // As many as a round makes, in each of at most 1,000,000 rounds.
     ensures calls { RoseWithin 0 ((4038 + P.most) * length connections.old * 1000000) (L.call_count links.old) (L.call_count links.new) }
     ensures begun { (base : ℕ) → IsUnderWay P.HANDS_OUT P.least base (L.call_count links.old) coordinator.old connections.old → OnOk result (HasBegun base (L.call_count links.new) coordinator.new.verdict) }
     ensures refusals { Closing L.refusal_count L.refused_at links.old links.new connections.old connections.new }

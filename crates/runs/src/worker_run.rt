@@ -32,6 +32,7 @@ fn reply<L: Links>(
     ensures inbox { local.new.inbox ≡ local.old.inbox }
     ensures calls { RoseWithin 0 1 (L.call_count links.old) (L.call_count links.new) }
     ensures one { RoseUnless result 1 (L.call_count links.old) (L.call_count links.new) }
+    // At most one call is refused, over this worker's link alone, and only if the result is `Err`.
     ensures refusals { Refuses L.refusal_count L.refused_at number (one_if_err result) 0 links.old links.new }
 {
     let frame = local.reply(links, number)?;
@@ -39,7 +40,8 @@ fn reply<L: Links>(
     Ok(())
 }
 
-/// Lets the worker search once, if its pace has it search in this round. Answers `NoMemory` if memory is refused.
+/// Lets the worker search once if its pace says that a search may begin in this round. Answers
+/// `NoMemory` if memory is refused.
 fn work_if_due(local: &mut LocalWorker, pace: &Pace) -> Result<(), Broken>
     ensures formula { local.new.worker.formula ≡ local.old.worker.formula }
     ensures verdict { local.new.worker.verdict ≡ local.old.worker.verdict }
@@ -61,6 +63,7 @@ fn work_and_reply<L: Links>(
     ensures formula { local.new.worker.formula ≡ local.old.worker.formula }
     ensures calls { RoseWithin 0 1 (L.call_count links.old) (L.call_count links.new) }
     ensures one { RoseUnless result 1 (L.call_count links.old) (L.call_count links.new) }
+    // At most one call is refused, over this worker's link alone, and only if the result is `Err`.
     ensures refusals { Refuses L.refusal_count L.refused_at number (one_if_err result) 0 links.old links.new }
 {
     match pace.order() {
@@ -85,9 +88,11 @@ fn answer<L: Links>(
     pace: &mut Pace,
 ) -> Result<(), Broken>
     ensures formula { local.new.worker.formula ≡ local.old.worker.formula }
+    // At most 4,037 receives, of a byte each, and a send.
     ensures calls { RoseWithin 0 4038 (L.call_count links.old) (L.call_count links.new) }
     ensures least { OnOk result (RoseBy (1 + one_if_none local.old.inbox.waiting.items) (L.call_count links.old) (L.call_count links.new)) }
     ensures first { local.old.inbox.waiting.items ≡ [] → (local.new.worker.verdict ≡ local.old.worker.verdict) ⊎ RoseUnless result 2 (L.call_count links.old) (L.call_count links.new) }
+    // At most one call is refused, over this worker's link alone, and only if the result is `Err`.
     ensures refusals { Refuses L.refusal_count L.refused_at number (one_if_err result) 0 links.old links.new }
 {
     local.take_frame(links, number)?;
@@ -115,8 +120,10 @@ fn answer_all<L: Links>(
     requires inbox { local.old.inbox.waiting.items ≡ [] }
     requires verdict { local.old.worker.verdict ≡ Nothing }
     ensures formula { local.new.worker.formula ≡ local.old.worker.formula }
+    // At most 4,038 calls in each of at most 1,000,000 rounds.
     ensures calls { RoseWithin 0 4038000000 (L.call_count links.old) (L.call_count links.new) }
     ensures two { (local.new.worker.verdict ≡ Nothing) ⊎ RoseUnless result 2 (L.call_count links.old) (L.call_count links.new) }
+    // At most one call is refused, over this worker's link alone, and only if the result is `Err`.
     ensures refusals { Refuses L.refusal_count L.refused_at number (one_if_err result) 0 links.old links.new }
 {
     for _ in 0..ROUNDS {

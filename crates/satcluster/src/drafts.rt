@@ -16,7 +16,7 @@ use std::io;
 use std::io::Write;
 use std::rt::Runtime;
 
-/// A file in the making.
+/// An unfinished file.
 #[derive(Drop)]
 pub(crate) enum Draft<F> {
     /// A temporary file beside its path, and the path to which it will be renamed.
@@ -55,10 +55,12 @@ fn begin_beside<R: Runtime + AllocGlobal>(
 impl<R: Runtime + AllocGlobal> Drafts for Machine<'_, R> {
     type Draft = Draft<R::File>;
 
+    /// Whether two paths lead to the same file.
     fn is_same(&self, path: &str, other: &str) -> bool {
         is_same_file(self.rt, path, other)
     }
 
+    /// Creates a temporary file beside the path, or truncates the file at the path itself.
     fn begin(&self, path: &str, way: Way) -> Result<Option<Draft<R::File>>, Refusal> {
         match way {
             Way::Beside => begin_beside(self.rt, path),
@@ -69,6 +71,7 @@ impl<R: Runtime + AllocGlobal> Drafts for Machine<'_, R> {
         }
     }
 
+    /// Writes bytes at the end of the temporary file, or of the file itself.
     fn append(&self, draft: &mut Draft<R::File>, bytes: &[u8]) -> Result<(), Refusal> {
         let written = match draft {
             Draft::Beside(part, _) => append(part, bytes),
@@ -77,6 +80,7 @@ impl<R: Runtime + AllocGlobal> Drafts for Machine<'_, R> {
         written.map_err(not_written)
     }
 
+    /// Whether a path leads to the temporary file, or to the file that it will replace.
     fn leads_to(&self, draft: &Draft<R::File>, path: &str) -> bool {
         match draft {
             Draft::Beside(part, place) => {
@@ -86,6 +90,7 @@ impl<R: Runtime + AllocGlobal> Drafts for Machine<'_, R> {
         }
     }
 
+    /// Renames the temporary file to its path; a file that was written in place is there already.
     fn keep(&mut self, draft: Draft<R::File>) -> Result<bool, Refusal> {
         match draft {
             Draft::Beside(part, place) => keep(self.rt, part, &place).map_err(not_written),
@@ -93,6 +98,7 @@ impl<R: Runtime + AllocGlobal> Drafts for Machine<'_, R> {
         }
     }
 
+    /// Removes the temporary file; a file that was written in place stays.
     fn remove(&self, draft: Draft<R::File>) {
         match draft {
             Draft::Beside(part, _) => remove(self.rt, part),

@@ -10,7 +10,7 @@ mod sentence;
 mod view;
 mod words;
 
-use crate::explain::faults::explain_fault;
+use crate::explain::faults::tell_fault;
 use crate::explain::paths::{Paths, joined_name, paths_of};
 use crate::explain::reasons::{tell_unread, tell_unwritten};
 use crate::explain::sentence::tell_of;
@@ -38,7 +38,7 @@ fn explain_other<R: Runtime>(rt: &R, paths: &Paths, other: Other) {
 /// Tells what a line of a report means. Answers false if there is nothing to tell.
 fn explain_line<R: Runtime + AllocGlobal>(rt: &R, paths: &Paths, line: &str) -> bool {
     if let Some(found) = Fault::of(line) {
-        explain_fault(rt, paths, &found);
+        tell_fault(rt, paths, &found);
     } else if let Some(other) = Other::of(line) {
         explain_other(rt, paths, other);
     } else if let Some(number) = unread_number(line) {
@@ -90,7 +90,7 @@ fn explain_bytes<R: Runtime + AllocGlobal>(rt: &R, words: &[&str], bytes: &[u8])
     }
 }
 
-/// Tells what a report means, or the line of a run without one.
+/// Prints what a report means, or the line of a run that has no report.
 pub(crate) fn explain<R: Runtime + AllocGlobal>(
     rt: &R,
     words: &[&str],

@@ -2,7 +2,7 @@
 
 use crate::standard_input::is_dash;
 use commands::{Disk, Pieces, read_bytes, refused};
-use dimacs::{DimacsFault, Formula};
+use dimacs::{DimacsFault, Formula, Limits};
 use node_main::Refusal;
 use std::alloc::Global;
 use std::fs;
@@ -31,10 +31,12 @@ pub(crate) struct Machine<'a, R> {
 impl<R: Runtime + AllocGlobal> Disk for Machine<'_, R> {
     type Source = R::File;
 
+    /// The allocator of the runtime.
     fn alloc(&self) -> Global {
         self.rt.alloc()
     }
 
+    /// Opens the file at a path, and notes whether it is a regular one, which has an end.
     fn open(&self, path: &str, refusal: Refusal) -> Result<Pieces<R::File>, Refusal> {
         let file = match File::open(self.rt, path_of(path)) {
             Ok(file) => file,
@@ -76,13 +78,14 @@ pub(crate) fn read<R: Runtime + AllocGlobal>(
     read_bytes(rt.alloc(), &mut pieces, len as usize)
 }
 
-/// Reads the formula in the file of a name, or the first fault of its text, which is the inner error. The outer error is that the file
-/// cannot be read, or want of memory.
+/// Reads the formula in the file of a name within these limits, or the first fault of its text, which is the inner error. The outer error
+/// is that the file cannot be read, or want of memory.
 pub(crate) fn read_formula<R: Runtime + AllocGlobal>(
     rt: &R,
+    limits: Limits,
     path: &str,
 ) -> Result<Result<Formula, DimacsFault>, Refusal> {
-    commands::read_formula(rt.alloc(), &mut open(rt, path, Refusal::Input)?)
+    commands::read_formula(rt.alloc(), limits, &mut open(rt, path, Refusal::Input)?)
 }
 
 /// Reads all bytes of the file of cubes; `None` if no file is named.

@@ -10,9 +10,10 @@ use crate::listener::accept_workers;
 use crate::progress::{Showing, Shown};
 use commands::{Target, print, refused};
 use connections::Connections;
+use dimacs::Limits;
 use links::{Counted, CountedArrivals, EventCarrier, Loopback, WorkerEnd};
 use node_main::{
-    Options, Refusal, Report, Start, begin, run_serve_from, run_solve_of, run_work_of,
+    Options, Refusal, Report, Start, begin, run_serve_from, run_solve_within, run_work_of,
     serve_arrivals,
 };
 use std::alloc::Global;
@@ -38,7 +39,7 @@ fn not_linked(error: io::Error) -> Refusal {
     refused(error, Refusal::Links)
 }
 
-/// Borrows the text of the cubes, if there is one.
+/// Lends the text of the cubes, if cubes were named.
 fn lent(cubes: &Option<Vec<u8>>) -> Option<&[u8]> {
     match cubes {
         Some(bytes) => Some(bytes.as_slice()),
@@ -47,7 +48,7 @@ fn lent(cubes: &Option<Vec<u8>>) -> Option<&[u8]> {
 }
 
 /// Writes the proof of a report, if it has one and a file is named for it, and answers the report. It errs if the proof cannot be written.
-fn kept<R: Runtime + AllocGlobal>(
+fn keep_proof<R: Runtime + AllocGlobal>(
     rt: &R,
     report: Report,
     files: &Files,
@@ -66,7 +67,7 @@ fn kept<R: Runtime + AllocGlobal>(
 }
 
 /// Answers where the progress of a run is shown: `showing` if the words ask for progress, else nowhere.
-fn asked(options: &Options, showing: Showing) -> Showing {
+fn shown_where(options: &Options, showing: Showing) -> Showing {
     if options.progress {
         showing
     } else {
@@ -74,22 +75,24 @@ fn asked(options: &Options, showing: Showing) -> Showing {
     }
 }
 
-/// Decides the formula in a file by workers in this process, over links of its own, writes the proof, and answers the report.
+/// Decides the formula in a file, which is read within these limits, by workers in this process, over links of its own, writes the proof,
+/// and answers the report.
 pub(crate) fn solve<R: Runtime + AllocGlobal + Net>(
     rt: &R,
+    limits: Limits,
     files: &Files,
     options: &Options,
     showing: Showing,
 ) -> Result<Report, Refusal>
     requires { AreOptions options.now }
 {
-    let found = read_formula(rt, files.input)?;
+    let found = read_formula(rt, limits, files.input)?;
     let cubes = read_cubes(rt, files.cubes)?;
     let carrier = Loopback::open(rt, rt.alloc(), options.workers).map_err(not_linked)?;
-    let mut links = Counted::new(Shown::new(rt, carrier, asked(options, showing)));
-    let run = run_solve_of(rt.alloc(), found, lent(&cubes), options, &mut links);
+    let mut links = Counted::new(Shown::new(rt, carrier, shown_where(options, showing)));
+    let run = run_solve_within(rt.alloc(), found, limits, lent(&cubes), options, &mut links);
     links.carrier().end();
-    kept(rt, run.map_err(no_memory)?, files)
+    keep_proof(rt, run.map_err(no_memory)?, files)
 }
 
 /// How many connections there may be besides those of the workers; also the most workers for which room is kept.
@@ -108,7 +111,7 @@ fn open_listener<R: Runtime + Net>(
 
 /// Reads the formula and the cubes, and answers with what a run over them begins: the formula with the tree by which it is split, or a
 /// report.
-fn begun<R: Runtime + AllocGlobal>(
+fn read_start<R: Runtime + AllocGlobal>(
     rt: &R,
     files: &Files,
     options: &Options,
@@ -116,13 +119,14 @@ fn begun<R: Runtime + AllocGlobal>(
     requires { AreOptions options.now }
     ensures { IfOk result (IsStart options.now) }
 {
-    let found = read_formula(rt, files.input)?;
+    let found = read_formula(rt, Limits::written(), files.input)?;
     let cubes = read_cubes(rt, files.cubes)?;
     begin(rt.alloc(), found, lent(&cubes), options).map_err(no_memory)
 }
 
-/// Serves a run over these links, and answers a report without text. At the verdict the proof is written and the answer printed; then the
-/// workers get the verdict. If the answer cannot be printed, the status is 1.
+/// Serves a run over these links, and answers a report without text. At the verdict the proof is
+/// written and the answer printed; then the workers get the verdict. If the answer cannot be
+/// printed, the status is 1.
 fn serve_over<R: Runtime + AllocGlobal, S: EventCarrier>(
     rt: &R,
     start: Start,
@@ -167,8 +171,8 @@ fn serve_by_arrivals<R: Runtime + AllocGlobal + Net>(
     requires { AreOptions options.now }
 {
     let listener = open_listener(rt, rt.alloc(), port, options.workers).map_err(not_linked)?;
-    let start = begun(rt, files, options)?;
-    let mut links = CountedArrivals::new(Shown::new(rt, listener, asked(options, showing)));
+    let start = read_start(rt, files, options)?;
+    let mut links = CountedArrivals::new(Shown::new(rt, listener, shown_where(options, showing)));
     serve_over(rt, start, files, options, &mut links)
 }
 
@@ -185,15 +189,15 @@ fn serve_in_rounds<R: Runtime + AllocGlobal + Net>(
 {
     let at = SocketAddr::from((Ipv4Addr::LOCALHOST, port));
     let listener = TcpListener::bind(rt, at).map_err(not_linked)?;
-    let start = match begun(rt, files, options)? {
+    let start = match read_start(rt, files, options)? {
         Start::Refused(report) => return Ok(report),
         start => start,
     };
     let carrier = accept_workers::<R>(rt.alloc(), &listener, options.workers)?;
-    let mut links = Counted::new(Shown::new(rt, carrier, asked(options, showing)));
+    let mut links = Counted::new(Shown::new(rt, carrier, shown_where(options, showing)));
     let run = run_serve_from(rt.alloc(), start, options, &mut links);
     links.carrier().end();
-    kept(rt, run.map_err(no_memory)?, files)
+    keep_proof(rt, run.map_err(no_memory)?, files)
 }
 
 /// Decides the formula in a file by workers that connect to the port: in rounds if the words ask for it, else by arrivals.
@@ -222,9 +226,9 @@ pub(crate) fn work<R: Runtime + AllocGlobal + Net>(
 ) -> Result<Report, Refusal>
     requires { AreOptions options.now }
 {
-    let found = read_formula(rt, files.input)?;
+    let found = read_formula(rt, Limits::written(), files.input)?;
     let carrier = WorkerEnd::connect(rt, port).map_err(not_linked)?;
     let mut links = Counted::new(carrier);
     let run = run_work_of(rt.alloc(), found, options, &mut links);
-    kept(rt, run.map_err(no_memory)?, files)
+    keep_proof(rt, run.map_err(no_memory)?, files)
 }

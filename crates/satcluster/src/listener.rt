@@ -15,7 +15,8 @@ const CONNECTIONS: u32 = 128;
 /// How many bytes an Idle frame has.
 const IDLE: usize = 17;
 
-/// Answers the number of the worker if the first of some frames is its Idle; else `None`.
+/// Answers the number of the worker whose Idle is the first of these frames; `None` if that is
+/// another frame, or there is none.
 fn idle_of(frames: &[Frame]) -> Option<u32> {
     match frames.first() {
         Some(Frame::Idle { worker, .. }) => Some(worker.number()),
@@ -23,8 +24,9 @@ fn idle_of(frames: &[Frame]) -> Option<u32> {
     }
 }
 
-/// Reads the first frame of a connection, appends its bytes to `early`, and answers the number of the worker whose Idle it is. `None` if
-/// the connection ends or fails, at a fault of its bytes, at another frame, or after 17 bytes without a frame.
+/// Makes the handshake of a connection: reads its first frame, appends its bytes to `early`, and
+/// answers the number of the worker whose Idle it is. `None` if the connection ends or fails, at a
+/// fault of its bytes, at another frame, or after 17 bytes without a frame.
 fn greeting<S: Read>(
     alloc: Global,
     stream: &mut S,
@@ -53,8 +55,8 @@ fn greeting<S: Read>(
     Ok(None)
 }
 
-/// Links a connection by its first frame, which has to be Idle of a worker that is not linked yet; else the connection is closed. It errs
-/// only if memory runs out.
+/// Makes the handshake of a connection, and links its worker if that is not linked yet; else the
+/// connection is closed. It errs only if memory runs out.
 fn link<S: Read + OpenStream + Drop>(
     alloc: Global,
     mut stream: S,

@@ -22,12 +22,15 @@ use commands::{
     receipt_files, refused, split_by_look_files, split_files, test_files, trim_files,
 };
 use cubes_complete::complete;
+use dimacs::Limits;
 use explain::explain;
 use explanations::Asked;
 use files::{Machine, no_memory, read};
-use leaves::{SearchOptions, run_look};
+use leaves::{SearchOptions, run_look_within};
 use linked_runs::{Files, serve, solve, work};
-use node_main::{Refusal, Report, Request, UsageFault, command, run_cubes};
+use node_main::{
+    Command, Refusal, Report, Request, UsageFault, command_of, read_limits, run_cubes_within,
+};
 use progress::Showing;
 use refute::{LeafFiles, LeafRange, refute};
 use session::{SessionFiles, session};
@@ -39,19 +42,30 @@ use std::process::ExitCode;
 use std::rt::Runtime;
 use std::{env, io};
 
-/// Reads the formula in the file `input`, and reports a tree of cubes of this depth. It errs if the file cannot be read or memory runs out.
-fn cubes<R: Runtime + AllocGlobal>(rt: &R, input: &str, depth: u32) -> Result<Report, Refusal>
+/// Reads the formula in the file `input` within these limits, and reports a tree of cubes of this depth. It errs if the file cannot be read
+/// or memory runs out.
+fn cubes<R: Runtime + AllocGlobal>(
+    rt: &R,
+    limits: Limits,
+    input: &str,
+    depth: u32,
+) -> Result<Report, Refusal>
     requires { depth ≤ 16 }
 {
     let input = read(rt, input, Refusal::Input)?;
-    run_cubes(rt.alloc(), input.as_slice(), depth).map_err(no_memory)
+    run_cubes_within(rt.alloc(), limits, input.as_slice(), depth).map_err(no_memory)
 }
 
-/// Reads the formula in the file `input`, and reports a tree that a look ahead splits into about `leaves` leaves. It errs if the file
-/// cannot be read or memory runs out.
-fn look<R: Runtime + AllocGlobal>(rt: &R, input: &str, leaves: u32) -> Result<Report, Refusal> {
+/// Reads the formula in the file `input` within these limits, and reports a tree that a look ahead splits into about `leaves` leaves. It
+/// errs if the file cannot be read or memory runs out.
+fn cubes_by_look_ahead<R: Runtime + AllocGlobal>(
+    rt: &R,
+    limits: Limits,
+    input: &str,
+    leaves: u32,
+) -> Result<Report, Refusal> {
     let input = read(rt, input, Refusal::Input)?;
-    run_look(rt.alloc(), input.as_slice(), leaves).map_err(no_memory)
+    run_look_within(rt.alloc(), limits, input.as_slice(), leaves).map_err(no_memory)
 }
 
 /// Reads the formula in the file `input`, drills a cluster of three workers on it for `turns` turns by the words of `seed`, and reports
@@ -88,10 +102,12 @@ fn target(path: Option<&str>, binary: bool) -> Option<Target<'_>> {
     }
 }
 
-/// Runs a request, and answers its report, or why it has none. `showing` is how progress is shown if the words ask for it.
+/// Runs a request, whose inputs are read within these limits, and answers its report, or why it has none. `showing` is how progress is
+/// shown if the words ask for it.
 fn answer<R: Runtime + AllocGlobal + Net>(
     rt: &R,
     request: &Request,
+    limits: Limits,
     showing: Showing,
 ) -> Result<Report, Refusal>
     requires { IsInRange request.now }
@@ -109,7 +125,7 @@ fn answer<R: Runtime + AllocGlobal + Net>(
                 proof,
                 binary: options.binary,
             };
-            solve(rt, &files, &options, showing)
+            solve(rt, limits, &files, &options, showing)
         }
         Request::Check {
             input,
@@ -117,13 +133,13 @@ fn answer<R: Runtime + AllocGlobal + Net>(
             session: is_session,
         } => {
             if is_session {
-                check_session_files(&Machine { rt }, input, proof)
+                check_session_files(&Machine { rt }, limits, input, proof)
             } else {
-                check_files(&Machine { rt }, input, proof)
+                check_files(&Machine { rt }, limits, input, proof)
             }
         }
-        Request::Cubes { input, depth } => cubes(rt, input, depth),
-        Request::Look { input, leaves } => look(rt, input, leaves),
+        Request::Cubes { input, depth } => cubes(rt, limits, input, depth),
+        Request::Look { input, leaves } => cubes_by_look_ahead(rt, limits, input, leaves),
         Request::Serve {
             port,
             input,
@@ -159,13 +175,13 @@ fn answer<R: Runtime + AllocGlobal + Net>(
             cubes,
             leaf,
             on,
-        } => split_files(&Machine { rt }, input, cubes, u64::from(leaf), on),
+        } => split_files(&Machine { rt }, limits, input, cubes, u64::from(leaf), on),
         Request::SplitByLook { input, cubes, leaf } => {
-            split_by_look_files(&Machine { rt }, input, cubes, u64::from(leaf))
+            split_by_look_files(&Machine { rt }, limits, input, cubes, u64::from(leaf))
         }
-        Request::Complete { input, list } => complete(rt, input, list),
+        Request::Complete { input, list } => complete(rt, limits, input, list),
         Request::Leaf { input, cubes, leaf } => {
-            leaf_files(&Machine { rt }, input, cubes, u64::from(leaf))
+            leaf_files(&Machine { rt }, limits, input, cubes, u64::from(leaf))
         }
         Request::Refute {
             input,
@@ -192,7 +208,7 @@ fn answer<R: Runtime + AllocGlobal + Net>(
                 first: u64::from(leaf),
                 last: to.map(u64::from),
             };
-            refute(rt, &files, leaves, &search)
+            refute(rt, limits, &files, leaves, &search)
         }
         Request::Join {
             input,
@@ -212,7 +228,7 @@ fn answer<R: Runtime + AllocGlobal + Net>(
                 cubes,
                 options,
             };
-            join_files(&mut Machine { rt }, &files, fragments)
+            join_files(&mut Machine { rt }, limits, &files, fragments)
         }
         Request::Lift {
             input,
@@ -234,9 +250,14 @@ fn answer<R: Runtime + AllocGlobal + Net>(
                 proof,
                 log,
             };
-            lift_files(&mut Machine { rt }, &files, lifted_of(leaf, to, lidrup)?)
+            lift_files(
+                &mut Machine { rt },
+                limits,
+                &files,
+                lifted_of(leaf, to, lidrup)?,
+            )
         }
-        Request::Model { input, output } => test_files(&Machine { rt }, input, output),
+        Request::Model { input, output } => test_files(&Machine { rt }, limits, input, output),
         Request::Trim {
             input,
             proof,
@@ -245,7 +266,7 @@ fn answer<R: Runtime + AllocGlobal + Net>(
         } => {
             let out = Target { path: out, binary };
             let files = TrimFiles { input, proof, out };
-            trim_files(&mut Machine { rt }, &files)
+            trim_files(&mut Machine { rt }, limits, &files)
         }
         Request::Receipt {
             input,
@@ -279,7 +300,7 @@ fn answer<R: Runtime + AllocGlobal + Net>(
             proof,
             limit,
             witness,
-        } => session(rt, SessionFiles { input, proof }, limit, witness),
+        } => session(rt, limits, SessionFiles { input, proof }, limit, witness),
     }
 }
 
@@ -326,12 +347,14 @@ fn respond<R: Runtime + AllocGlobal + Net>(
     words: &[&str],
     showing: Showing,
 ) -> Result<Report, &'static str> {
-    match command(rt.alloc(), words) {
-        Ok(request) => {
+    match command_of(rt.alloc(), words) {
+        Ok(Command { request, large }) => {
             if !is_sound(&request) {
                 return Err(Refusal::Usage.line(false));
             }
-            answer(rt, &request, showing).map_err(|refusal| refusal.line(is_quiet(&request)))
+            answer(rt, &request, read_limits(large), showing).map_err(|refusal| refusal.line(
+                is_quiet(&request),
+            ))
         }
         Err(UsageFault::Help(text)) => {
             help(rt, words, &text).map_err(|_| Refusal::NoMemory.line(false))
@@ -348,7 +371,7 @@ fn words<R: Runtime + AllocGlobal>(rt: &R) -> Result<Vec<String>, Refusal> {
 }
 
 /// Prints a report, or the line of a run without one, and answers the exit status, which is 1 if not all was printed.
-fn ended<R: Runtime>(rt: &R, found: &Result<Report, &'static str>) -> u8 {
+fn print_outcome<R: Runtime>(rt: &R, found: &Result<Report, &'static str>) -> u8 {
     match deliver(&mut io::writer(rt), found) {
         Ok(status) => status,
         Err(_) => 1,
@@ -365,7 +388,7 @@ fn run<R: Runtime + AllocGlobal + Net>(
     let asked = Asked::of(rt.alloc(), owned)?;
     let words = asked.words.as_slice();
     let found = respond(rt, words, showing);
-    let status = ended(rt, &found);
+    let status = print_outcome(rt, &found);
     if asked.explains {
         explain(rt, words, &found);
     }
@@ -377,11 +400,11 @@ fn run<R: Runtime + AllocGlobal + Net>(
 fn status_of<R: Runtime + AllocGlobal + Net>(rt: &R, showing: Showing) -> u8 {
     let owned = match words(rt) {
         Ok(owned) => owned,
-        Err(refusal) => return ended(rt, &Err(refusal.line(false))),
+        Err(refusal) => return print_outcome(rt, &Err(refusal.line(false))),
     };
     match run(rt, owned.as_slice(), showing) {
         Ok(status) => status,
-        Err(_) => ended(rt, &Err(Refusal::NoMemory.line(false))),
+        Err(_) => print_outcome(rt, &Err(Refusal::NoMemory.line(false))),
     }
 }
 

@@ -61,12 +61,12 @@ impl<'a, R: Runtime, T> Shown<'a, R, T> {
     }
 
     /// Adds to the count of received bytes.
-    fn note(&mut self, count: usize) {
+    fn add_bytes(&mut self, count: usize) {
         self.bytes = self.bytes.saturating_add(count as u64);
     }
 
     /// Shows the progress, at most once a second. A write that fails is ignored.
-    fn tell(&mut self, progress: &Progress) {
+    fn print_progress(&mut self, progress: &Progress) {
         if self.showing == Showing::Nowhere {
             return;
         }
@@ -86,7 +86,8 @@ impl<'a, R: Runtime, T> Shown<'a, R, T> {
         };
     }
 
-    /// Ends the line that is overwritten, if there is one.
+    /// Ends the line on standard error that each progress overwrites, so that the report begins a
+    /// new one.
     pub(crate) fn end(&self) {
         if self.showing == Showing::InPlace && self.told != self.begun {
             let _ = eprintln!(self.rt; "");
@@ -94,7 +95,8 @@ impl<'a, R: Runtime, T> Shown<'a, R, T> {
     }
 }
 
-/// Answers the seconds of the monotonic clock; 0 if it cannot be read.
+/// Answers the seconds of the monotonic clock, for the time that the progress shows; 0 if it cannot
+/// be read.
 fn seconds<R: Runtime>(rt: &R) -> u64 {
     match rt.monotonic() {
         Ok(time) => time.as_secs(),
@@ -130,45 +132,52 @@ impl Display for Told {
 }
 
 impl<R: Runtime, C: Carrier> Carrier for Shown<'_, R, C> {
+    /// Carries the bytes over the inner links.
     fn carry(&mut self, from: End, bytes: &[u8]) -> Result<(), LinkFault> {
         self.links.carry(from, bytes)
     }
 
+    /// Fetches bytes over the inner links, and counts what comes to the coordinator.
     fn fetch(&mut self, at: End, room: &mut [u8]) -> Result<usize, LinkFault>
         ensures { IfOk result (λ n. n ≤ length room.new) }
     {
         let fetched = self.links.fetch(at, room);
         if let (End::Coordinator(_), Ok(count)) = (at, &fetched) {
-            self.note(*count);
+            self.add_bytes(*count);
         }
         fetched
     }
 
+    /// Prints the progress, at most once a second.
     fn show(&mut self, progress: &Progress) {
-        self.tell(progress);
+        self.print_progress(progress);
     }
 }
 
 impl<R: Runtime, S: EventCarrier> EventCarrier for Shown<'_, R, S> {
+    /// Waits for the next event of the inner links, and counts its bytes.
     fn await_any(&mut self, room: &mut [u8]) -> Arrival
         ensures { IsWithin result.event (length room.new) }
     {
         let arrival = self.links.await_any(room);
         if let Event::Bytes { count, .. } = arrival.event {
-            self.note(count);
+            self.add_bytes(count);
         }
         arrival
     }
 
+    /// Sends the bytes over the inner links.
     fn carry_to(&mut self, place: u8, bytes: &[u8]) -> Result<(), LinkFault> {
         self.links.carry_to(place, bytes)
     }
 
+    /// Ends a link of the inner links.
     fn drop_at(&mut self, place: u8) {
         self.links.drop_at(place);
     }
 
+    /// Prints the progress, at most once a second.
     fn show(&mut self, progress: &Progress) {
-        self.tell(progress);
+        self.print_progress(progress);
     }
 }

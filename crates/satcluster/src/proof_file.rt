@@ -75,7 +75,8 @@ pub(crate) fn place_of<R: Runtime + AllocGlobal>(rt: &R, path: &str) -> io::Resu
     }
 }
 
-/// Creates a temporary file, with the permissions of the file that it will replace; `None` if it cannot be created so.
+/// Creates the temporary file `PATH.partN` beside the path, with the permissions of the file that
+/// it will replace; `None` if it cannot be created so.
 pub(crate) fn make_part<R: Runtime + AllocGlobal>(
     rt: &R,
     place: &Place,
@@ -85,7 +86,7 @@ pub(crate) fn make_part<R: Runtime + AllocGlobal>(
         let name = format!(in rt.alloc(); "{path}.part{number}")?;
         match File::create_new(rt, name.as_str()) {
             Ok(file) => {
-                return Ok(permitted(rt, Part { file, name }, place));
+                return Ok(copy_permissions(rt, Part { file, name }, place));
             }
             Err(error) if error.kind() == ErrorKind::AlreadyExists => {}
             Err(_) => return Ok(None),
@@ -95,7 +96,11 @@ pub(crate) fn make_part<R: Runtime + AllocGlobal>(
 }
 
 /// Gives a temporary file the permissions of the file that it will replace; if it cannot, removes it and answers `None`.
-fn permitted<R: Runtime>(rt: &R, part: Part<R::File>, place: &Place) -> Option<Part<R::File>> {
+fn copy_permissions<R: Runtime>(
+    rt: &R,
+    part: Part<R::File>,
+    place: &Place,
+) -> Option<Part<R::File>> {
     if let Some(old) = &place.old {
         if part.file.set_permissions(old.permissions()).is_err() {
             remove(rt, part);

@@ -3,18 +3,21 @@
 use crate::drafts::write_proof;
 use crate::files::{Machine, no_memory};
 use commands::{Begun, Target, begin_files, hushed};
+use dimacs::Limits;
 use leaves::{SearchOptions, Split, run_refute, run_refute_all};
 use node_main::{Refusal, Report};
 use std::alloc::Global;
 use std::rt::Runtime;
 
-/// Reads a formula and the tree of its cubes, or answers the report of the first fault. It errs if a file cannot be read.
-pub(crate) fn begin<R: Runtime + AllocGlobal>(
+/// Reads a formula and the tree of its cubes within these limits, or answers the report of the first fault. It errs if a file cannot be
+/// read.
+pub(crate) fn read_split<R: Runtime + AllocGlobal>(
     rt: &R,
+    limits: Limits,
     input: &str,
     cubes: &str,
 ) -> Result<Begun, Refusal> {
-    begin_files(&Machine { rt }, input, cubes)
+    begin_files(&Machine { rt }, limits, input, cubes)
 }
 
 /// The files of a search under leaves.
@@ -40,7 +43,7 @@ pub(crate) struct LeafRange {
 }
 
 /// Searches under a leaf, or under several in turn, and reports what was found. It errs if memory runs out.
-fn searched(
+fn search_leaves(
     alloc: Global,
     split: &Split,
     leaves: LeafRange,
@@ -52,19 +55,20 @@ fn searched(
     run_refute_all(alloc, split, leaves.first, last, search).map_err(no_memory)
 }
 
-/// Reads a formula and the tree of its cubes, searches under a leaf, or under several in turn, and reports what was found. The log is
-/// written to a file if one is named.
+/// Reads a formula and the tree of its cubes within these limits, searches under a leaf, or under several in turn, and reports what was
+/// found. The log is written to a file if one is named.
 pub(crate) fn refute<R: Runtime + AllocGlobal>(
     rt: &R,
+    limits: Limits,
     files: &LeafFiles,
     leaves: LeafRange,
     search: &SearchOptions,
 ) -> Result<Report, Refusal> {
-    let split = match begin(rt, files.input, files.cubes)? {
+    let split = match read_split(rt, limits, files.input, files.cubes)? {
         Begun::With(split) => split,
         Begun::Refused(report) => return Ok(hushed(report, search.quiet)),
     };
-    let report = searched(rt.alloc(), &split, leaves, search)?;
+    let report = search_leaves(rt.alloc(), &split, leaves, search)?;
     match (files.fragment, &report.proof) {
         (Some(path), Some(log)) => {
             let target = Target {

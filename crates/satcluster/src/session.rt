@@ -5,6 +5,7 @@ use crate::files::{no_memory, path_of};
 use crate::proof_file::{is_printed_to, is_same_file, place_of};
 use crate::standard_input::is_dash;
 use commands::{Asking, Outputs, answer_session, print, refused};
+use dimacs::Limits;
 use node_main::{Refusal, Report};
 use std::fs::{File, OpenFile};
 use std::io;
@@ -34,6 +35,7 @@ struct Printer<'a, R, F> {
 }
 
 impl<R: Runtime, F: Write> Outputs for Printer<'_, R, F> {
+    /// Appends bytes to the file of the proof, if one is written.
     fn prove(&mut self, bytes: &[u8]) -> Result<(), Refusal> {
         match &mut self.proof {
             Some(file) => file.write_all(bytes).map_err(not_written),
@@ -41,6 +43,7 @@ impl<R: Runtime, F: Write> Outputs for Printer<'_, R, F> {
         }
     }
 
+    /// Prints a text on standard output and flushes; false if that fails.
     fn print(&mut self, text: &[u8]) -> bool {
         print(&mut io::writer(self.rt), text).is_ok()
     }
@@ -88,14 +91,16 @@ fn run<R: Runtime + AllocGlobal, S: Read + Drop>(
     answer_session(rt.alloc(), events, &mut printer, asking)
 }
 
-/// Answers the queries of a session. If the file of events cannot be opened, the file of the proof is not touched.
+/// Answers the queries of a session within these limits. If the file of events cannot be opened, the file of the proof is not touched.
 pub(crate) fn session<R: Runtime + AllocGlobal>(
     rt: &R,
+    limits: Limits,
     files: SessionFiles<'_>,
     limit: Option<u64>,
     witness: bool,
 ) -> Result<Report, Refusal> {
     let asking = Asking {
+        limits,
         limit: limit.unwrap_or(NO_LIMIT),
         witness,
     };

@@ -25,8 +25,8 @@ fn is_one_of_several(names: &[&str]) -> bool {
     names.len() > 1 && names.iter().any(|name| *name == "-")
 }
 
-/// Whether standard input would be read twice by a command that reads a formula, cubes, and the files of these names; or be one of several
-/// such files.
+/// Whether a command that reads a formula, cubes, and the files of these names would read standard
+/// input twice, or has it as one of several files.
 fn are_read_twice(input: &str, cubes: &str, names: &[&str]) -> bool {
     let lists = names.len() == 1 && is_dash(names[0]);
     is_one_of_several(names) || are_two(is_dash(input), is_dash(cubes), lists)
@@ -89,7 +89,7 @@ fn is_written(request: &Request) -> bool {
     }
 }
 
-/// Whether a request names standard input as it may: at most once, and not as a file that is written.
+/// Whether a request names standard input, `-`, at most once, and not as a file that is written.
 pub(crate) fn is_sound(request: &Request) -> bool {
     !is_read_twice(request) && !is_written(request)
 }

@@ -38,7 +38,7 @@ fn try_call(alloc: Global, name: &str) -> Option<Tried> {
     }
 }
 
-/// Prints the outcome of a call.
+/// Prints the answer of a call, and first that memory was wanting, if it was made twice.
 fn print<W: Write>(out: &mut W, tried: &Tried) -> io::Result<()> {
     if tried.was_refused {
         out.write_all(b"no memory, then\n")?;

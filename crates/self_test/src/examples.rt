@@ -31,7 +31,7 @@ fn printed(alloc: Global, answer: &[u8], vars: u32) -> Result<Assignment, AllocE
     Ok(Assignment::new(values))
 }
 
-/// The answer for a formula, and whether it passes the test.
+/// Solves a formula, tests the assignment or the proof, and answers the word for the result.
 fn found(alloc: Global, input: &[u8], formula: &Formula) -> Result<&'static str, AllocError> {
     let mut links = Counted::new(Memory::new(alloc, USUAL.workers)?);
     let report = run_solve(alloc, input, None, &USUAL, &mut links)?;
@@ -49,7 +49,8 @@ fn found(alloc: Global, input: &[u8], formula: &Formula) -> Result<&'static str,
     }
 }
 
-/// The line that is printed of a file.
+/// Reads a file, solves its formula, and answers the word for the result; in capitals if something
+/// is wrong.
 fn told<R: Runtime + AllocGlobal>(rt: &R, name: &str) -> &'static str {
     let input = match fs::read(rt, name) {
         Ok(input) => input,
@@ -61,7 +62,7 @@ fn told<R: Runtime + AllocGlobal>(rt: &R, name: &str) -> &'static str {
     }
 }
 
-/// Solves a file, and prints its line.
+/// Solves a file, and prints its name and the word for the result.
 pub(crate) fn solve<R: Runtime + AllocGlobal>(rt: &R, name: &str) -> io::Result<()> {
     let mut out = io::writer(rt);
     out.write_all(name.as_bytes())?;

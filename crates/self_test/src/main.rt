@@ -13,7 +13,7 @@ use std::process::ExitCode;
 use std::rt::Runtime;
 use std::{env, io};
 
-/// Does what a word says.
+/// Does the test that a word names: random runs, the formula of a file, or a call.
 fn try_one<R: Runtime + AllocGlobal>(rt: &R, word: &str) -> io::Result<()> {
     if word == "drawn_runs" {
         return random_runs::play_formulas(rt);
@@ -24,6 +24,7 @@ fn try_one<R: Runtime + AllocGlobal>(rt: &R, word: &str) -> io::Result<()> {
     calls::make(rt, word)
 }
 
+/// Does what each word of the command line says, in turn.
 fn run<R: Runtime + AllocGlobal>(rt: &R) -> io::Result<()> {
     for word in env::args(rt)?.skip(1) {
         try_one(rt, word.as_str())?;
@@ -31,6 +32,7 @@ fn run<R: Runtime + AllocGlobal>(rt: &R) -> io::Result<()> {
     Ok(())
 }
 
+/// Runs the tests; status 1 if an output cannot be written.
 fn main(rt: HostRuntime) -> ExitCode {
     match run(&rt) {
         Ok(()) => ExitCode::SUCCESS,

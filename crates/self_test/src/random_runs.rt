@@ -33,6 +33,8 @@ const PIGEONS: &[u8] =
 const ROOM: &[u8] =
     b"p cnf 9 12\n1 2 3 0\n4 5 6 0\n7 8 9 0\n-1 -4 0\n-1 -7 0\n-4 -7 0\n-2 -5 0\n-2 -8 0\n-5 -8 0\n-3 -6 0\n-3 -9 0\n-6 -9 0\n";
 
+/// The formulas that are solved, with the exit status that is right for each: 10 if satisfiable, 20
+/// if not.
 const FORMULAS: [Known; 3] = [
     Known {
         name: "four clauses",
@@ -97,7 +99,7 @@ fn play(alloc: Global, known: &Known, seed: u64, tally: &mut Tally) -> Result<()
     Ok(())
 }
 
-/// Plays the runs of a formula.
+/// Plays the runs of all seeds for a formula, and counts how they end.
 fn play_all(alloc: Global, known: &Known) -> Result<Tally, AllocError> {
     let mut tally = Tally {
         decided: 0,

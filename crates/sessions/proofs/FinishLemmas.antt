@@ -1,15 +1,16 @@
 -- What is wanted, and what is answered at the end.
 use Rattle.std.proofs.Common.{◌≡◌, ◌≢◌, inl, inr, ℕ, Bool, true, false, List, [], ◌++◌, Option, Some, None, Ok, Err, refl, sym, ◌∙◌, ap, subst}
 use Rattle.std.proofs.lemmas.List.{append-nil}
+use Rattle.dimacs.specs.logic.Limits.{Limits}
 use Rattle.dimacs.specs.text.Words.{lines}
 use Rattle.icnf.specs.declared.fault.IcnfFault.{IcnfFault}
 use Rattle.lrat_check.specs.ProofFaults.{no_memory}
 use Rattle.lrat_check.specs.declared.line_checker.CheckFault.{CheckFault}
 use Rattle.sessions.specs.Answers.{Event, tally}
 use Rattle.sessions.specs.Check.{Finishes, HasOutcome, HasTaken, OfTexts, ReadsBy, coming_by, front, still, wanted_by}
-use Rattle.sessions.specs.Events.{events_of}
+use Rattle.sessions.specs.Events.{events_within}
 use Rattle.sessions.specs.Follows.{Follows, Right}
-use Rattle.sessions.specs.Texts.{Outcome, behind, session_of}
+use Rattle.sessions.specs.Texts.{Outcome, behind, session_within}
 use Rattle.sessions.specs.Sides.{Ends, IsBroken, later_by}
 use Rattle.sessions.specs.inner.Sides.{fault_at}
 use Rattle.sessions.specs.declared.check.SessionCheck.{SessionCheck}
@@ -49,27 +50,27 @@ no_events o p b e h = let none : false ≡ true = sym (events_wanted o p b h).1 
 
 -- ---- the end
 -- the events that were heard are all
-all_events : (e d : List ℕ) (E : List Event) (x : SessionCheck) → x.proof.no_event ≡ true → ReadsBy None e E x → Ends x.proof.no_event d → events_of (e ++ d) ≡ Ok E
-all_events e d E x ended r ends = r.1 d ends ∙ ap (λ b. front E (coming_by b x d)) ended ∙ ap Ok (append-nil E)
+all_events : (L : Limits) (e d : List ℕ) (E : List Event) (x : SessionCheck) → x.proof.no_event ≡ true → ReadsBy L None e E x → Ends x.proof.no_event d → events_within L (e ++ d) ≡ Ok E
+all_events L e d E x ended r ends = r.1 d ends ∙ ap (λ b. front E (coming_by b x d)) ended ∙ ap Ok (append-nil E)
 
 ends_nil : (X : Type 0) (b : Bool) → Ends {X = X} b []
 ends_nil X true = refl
 ends_nil X false = tt
 
-module _ (e p : List ℕ) (x : SessionCheck) (fine : x.fault ≡ None) (ended : x.proof.no_event ≡ true) (h : HasTaken e p x) where
-  events_are : (d : List ℕ) → Ends x.proof.no_event d → events_of (e ++ d) ≡ Ok h.events
-  events_are d = all_events e d h.events x ended (subst (λ (o : Option IcnfFault). ReadsBy o e h.events x) fine h.reads)
+module _ {L : Limits} (e p : List ℕ) (x : SessionCheck) (fine : x.fault ≡ None) (ended : x.proof.no_event ≡ true) (h : HasTaken L e p x) where
+  events_are : (d : List ℕ) → Ends x.proof.no_event d → events_within L (e ++ d) ≡ Ok h.events
+  events_are d = all_events L e d h.events x ended (subst (λ (o : Option IcnfFault). ReadsBy L o e h.events x) fine h.reads)
 
-  session_is : (r : Right h.events p x.proof) (q : Phase) → x.proof.phase ≡ q → (more : List ℕ) → Ends x.proof.no_byte more
-      → session_of h.events (p ++ more) ≡ behind r.told (later_by q x.proof.lines.known x.proof.line [] (lines (x.proof.begun.items ++ more)))
+  session_is : (r : Right L h.events p x.proof) (q : Phase) → x.proof.phase ≡ q → (more : List ℕ) → Ends x.proof.no_byte more
+      → session_within L h.events (p ++ more) ≡ behind r.told (later_by q x.proof.lines.known x.proof.line [] (lines (x.proof.begun.items ++ more)))
   session_is r q is more rest =
-      ap (λ (X : List Event). session_of X (p ++ more)) (sym (append-nil h.events))
+      ap (λ (X : List Event). session_within L X (p ++ more)) (sym (append-nil h.events))
       ∙ r.is [] more (ends_nil Event x.proof.no_event) rest
       ∙ ap (λ (s : Phase). behind r.told (later_by s x.proof.lines.known x.proof.line [] (lines (x.proof.begun.items ++ more)))) is
 
   -- whatever follows, the proof has this outcome
-  outcome : (f : Option CheckFault) (r : Right h.events p x.proof) → ((more : List ℕ) → Ends x.proof.no_byte more → session_of h.events (p ++ more) ≡ record { answers = r.told ++ []; fault = f })
-      → OfTexts e p x (HasOutcome f x.proof.lines.known.tally)
+  outcome : (f : Option CheckFault) (r : Right L h.events p x.proof) → ((more : List ℕ) → Ends x.proof.no_byte more → session_within L h.events (p ++ more) ≡ record { answers = r.told ++ []; fault = f })
+      → OfTexts e p x (HasOutcome L f x.proof.lines.known.tally)
   outcome f r each = λ d b ends rest. (
     h.events,
     events_are d ends,
@@ -77,35 +78,35 @@ module _ (e p : List ℕ) (x : SessionCheck) (fine : x.fault ≡ None) (ended : 
     r.counts ∙ ap tally (sym (append-nil r.told)) ∙ ap (λ (o : Outcome). tally o.answers) (sym (each b rest)),
   )
 
-  pub finishes_right : x.proof.phase ≡ phase.Ended → Finishes e p x (Ok x.proof.lines.known.tally)
+  pub finishes_right : x.proof.phase ≡ phase.Ended → Finishes L e p x (Ok x.proof.lines.known.tally)
   finishes_right is = at h.follows
     where
-      at : Follows h.events p x.proof → Finishes e p x (Ok x.proof.lines.known.tally)
+      at : Follows L h.events p x.proof → Finishes L e p x (Ok x.proof.lines.known.tally)
       at (inl broken) = absurd (let s : phase.Ended ≡ phase.Stopped no_memory = sym is ∙ broken in cc)
       at (inr r) = outcome None r (λ more rest. session_is r phase.Ended is more rest)
 
   -- the proof has a fault
-  stops : (f : CheckFault) → ((r : Right h.events p x.proof) (more : List ℕ) → Ends x.proof.no_byte more → session_of h.events (p ++ more) ≡ record { answers = r.told ++ []; fault = Some f })
-      → (IsBroken x.proof → f ≡ no_memory) → Finishes e p x (Err (fault.Proof f x.proof.lines.known.tally))
+  stops : (f : CheckFault) → ((r : Right L h.events p x.proof) (more : List ℕ) → Ends x.proof.no_byte more → session_within L h.events (p ++ more) ≡ record { answers = r.told ++ []; fault = Some f })
+      → (IsBroken x.proof → f ≡ no_memory) → Finishes L e p x (Err (fault.Proof f x.proof.lines.known.tally))
   stops f each broken = at h.follows
     where
-      at : Follows h.events p x.proof → Finishes e p x (Err (fault.Proof f x.proof.lines.known.tally))
+      at : Follows L h.events p x.proof → Finishes L e p x (Err (fault.Proof f x.proof.lines.known.tally))
       at (inl b) = inl (broken b)
       at (inr r) = inr (outcome (Some f) r (each r))
 
-  pub finishes_stopped : (f : CheckFault) → x.proof.phase ≡ phase.Stopped f → Finishes e p x (Err (fault.Proof f x.proof.lines.known.tally))
+  pub finishes_stopped : (f : CheckFault) → x.proof.phase ≡ phase.Stopped f → Finishes L e p x (Err (fault.Proof f x.proof.lines.known.tally))
   finishes_stopped f is = stops f (λ r more rest. session_is r (phase.Stopped f) is more rest) (λ b. let s : phase.Stopped f ≡ phase.Stopped no_memory = sym is ∙ b in cc)
 
-  pub finishes_clause : x.proof.phase ≡ phase.Clause → Finishes e p x (Err (fault.Proof (fault_at x.proof.line 18 0) x.proof.lines.known.tally))
+  pub finishes_clause : x.proof.phase ≡ phase.Clause → Finishes L e p x (Err (fault.Proof (fault_at x.proof.line 18 0) x.proof.lines.known.tally))
   finishes_clause is = stops (fault_at x.proof.line 18 0) (λ r more rest. session_is r phase.Clause is more rest) (λ b. absurd (let s : phase.Clause ≡ phase.Stopped no_memory = sym is ∙ b in cc))
 
-  pub finishes_query : x.proof.phase ≡ phase.Query → Finishes e p x (Err (fault.Proof (fault_at x.proof.line 18 0) x.proof.lines.known.tally))
+  pub finishes_query : x.proof.phase ≡ phase.Query → Finishes L e p x (Err (fault.Proof (fault_at x.proof.line 18 0) x.proof.lines.known.tally))
   finishes_query is = stops (fault_at x.proof.line 18 0) (λ r more rest. session_is r phase.Query is more rest) (λ b. absurd (let s : phase.Query ≡ phase.Stopped no_memory = sym is ∙ b in cc))
 
-pub finishes_events : (e p : List ℕ) (x : SessionCheck) (f : IcnfFault) → x.fault ≡ Some f → HasTaken e p x → Finishes e p x (Err (fault.Events f))
-finishes_events e p x f is h = at (subst (λ (o : Option IcnfFault). ReadsBy o e h.events x) is h.reads)
+pub finishes_events : {L : Limits} (e p : List ℕ) (x : SessionCheck) (f : IcnfFault) → x.fault ≡ Some f → HasTaken L e p x → Finishes L e p x (Err (fault.Events f))
+finishes_events {L} e p x f is h = at (subst (λ (o : Option IcnfFault). ReadsBy L o e h.events x) is h.reads)
   where
-    at : ReadsBy (Some f) e h.events x → Finishes e p x (Err (fault.Events f))
+    at : ReadsBy L (Some f) e h.events x → Finishes L e p x (Err (fault.Events f))
     at (inl none) = inl none
     at (inr fails) = inr (λ d b ends rest. fails d ends)
 

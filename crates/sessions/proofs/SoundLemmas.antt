@@ -10,6 +10,7 @@ use Rattle.std.proofs.lemmas.Bool.Decides.{nat_tests}
 use Rattle.std.proofs.lemmas.List.Elements.{All-cons, All-nil, All-head, All-tail}
 use Rattle.std.proofs.lemmas.List.Folds.{list_any-append}
 use Rattle.dimacs.specs.logic.ClauseMap.{ClauseMap, live_in}
+use Rattle.dimacs.specs.logic.Limits.{Limits}
 use Rattle.dimacs.specs.logic.Literal.{Literal, Clause, IsTautology, IsTrueIn, has, literal_true, negation}
 use Rattle.dimacs.specs.logic.Propagation.{Rup}
 use Rattle.dimacs.specs.text.Words.{lines}
@@ -24,8 +25,8 @@ use Rattle.lrat_check.proofs.Pigeonhole.{eq_by_nat_cmp}
 use Rattle.lrat_check.proofs.Truth.{Satisfies, rup_true}
 use Rattle.lrat_text.specs.Log.{Cube}
 use Rattle.sessions.specs.Answers.{Event, Given, Asked, Answer, Satisfied, Failed, Unknown, MakesTrue, IsModel, IsRightAnswer, AreRight, queries}
-use Rattle.sessions.specs.Lines.{Line, Gives, Asks, Learns, Deletes, Says, Shows, Fails, Silent, Read, line_in}
-use Rattle.sessions.specs.Texts.{State, Taken, Goes, Awaits, Faulty, Outcome, stopped, with_clause, by_fault, without, is_met, is_model, core_fault, take_line, take_read, listed, is_event, going_on, by_left, end_of, pieces_from, text_from, begun, session_of, gives, asks, learns, says, shows, fails, is_between}
+use Rattle.sessions.specs.Lines.{Line, Gives, Asks, Learns, Deletes, Says, Shows, Fails, Silent, Read, line_within}
+use Rattle.sessions.specs.Texts.{State, Taken, Goes, Awaits, Faulty, Outcome, stopped, with_clause, by_fault, without, is_met, is_model, core_fault, take_line, take_read, listed, is_event, going_on, by_left, end_of, pieces_from, text_from, begun, session_within, lines_top, gives, asks, learns, says, shows, fails, is_between}
 use Rattle.sessions.specs.declared.kind.Status.{Status}
 use Rattle.sessions.specs.declared.kind.Status.TheVariants as status
 use Rattle.sessions.specs.declared.stage.Stage.{Stage}
@@ -424,7 +425,7 @@ pieces_right : (pieces : List (List ℕ)) (F : List Clause) (s : State) (line : 
 unfolding pieces_from
 pieces_right [] F s line E piece h = end_right F s line E piece
 pieces_right (next ∷ pieces) F s line E piece h =
-    going_right F s line E (take_read s (line_in piece)) (λ t D. pieces_from t (line + 1) D next pieces) (read_right F s (line_in piece) h)
+    going_right F s line E (take_read s (line_within (lines_top s.limits) piece)) (λ t D. pieces_from t (line + 1) D next pieces) (read_right F s (line_within (lines_top s.limits) piece) h)
     (λ G t D g. pieces_right pieces G t (line + 1) D next g)
 
 text_right : (F : List Clause) (s : State) (line : ℕ) (E : List Event) (pieces : List (List ℕ)) → Holds F s → AreAnswers F (left s E) (text_from s line E pieces)
@@ -432,18 +433,18 @@ unfolding text_from
 text_right F s line E [] h = end_right F s line E []
 text_right F s line E (piece ∷ pieces) h = pieces_right pieces F s line E piece h
 
-holds_begun : Holds [] begun
-holds_begun = record {
+holds_begun : (L : Limits) → Holds [] (begun L)
+holds_begun L = record {
   given = tt;
   low = λ n i. absurd (true≢false (sym i));
   follow = λ a sat n C live. absurd (let h : ◌≡◌ {A = Option Clause} None (Some C) = sym (get-from_entries nat_cmp_total [] n) ∙ live in cc);
 }
 
-pub session_right : (E : List Event) (text : List ℕ) → AreAnswers [] E (session_of E text)
-session_right E text = text_right [] begun 1 E (lines text) holds_begun
+pub session_right : (L : Limits) (E : List Event) (text : List ℕ) → AreAnswers [] E (session_within L E text)
+session_right L E text = text_right [] (begun L) 1 E (lines text) (holds_begun L)
 
-pub fronts_right : (E : List Event) (text : List ℕ) → AreRight [] E (session_of E text).answers
-fronts_right E text = (session_right E text).right
+pub fronts_right : (L : Limits) (E : List Event) (text : List ℕ) → AreRight [] E (session_within L E text).answers
+fronts_right L E text = (session_right L E text).right
 
-pub all_answered : (E : List Event) (text : List ℕ) → (session_of E text).fault ≡ None → length (session_of E text).answers ≡ queries E
-all_answered E text none = (session_right E text).all none
+pub all_answered : (L : Limits) (E : List Event) (text : List ℕ) → (session_within L E text).fault ≡ None → length (session_within L E text).answers ≡ queries E
+all_answered L E text none = (session_right L E text).all none

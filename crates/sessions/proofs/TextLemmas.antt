@@ -7,8 +7,8 @@ use Rattle.dimacs.specs.text.Words.{lines}
 use Rattle.lrat_check.proofs.Lines.{is_lf, first_piece}
 use Rattle.lrat_text.specs.Lines.{IsOpen}
 use Rattle.sessions.specs.Answers.{Event, Answer, counted, one_more, tally}
-use Rattle.sessions.specs.Lines.{line_in}
-use Rattle.sessions.specs.Texts.{State, Outcome, behind, going_on, pieces_from, take_read, text_from}
+use Rattle.sessions.specs.Lines.{line_within}
+use Rattle.sessions.specs.Texts.{State, Outcome, behind, going_on, lines_top, pieces_from, take_read, text_from}
 use Rattle.sessions.specs.declared.tally.Tally.{Tally}
 
 -- the first line of a text, and what follows it
@@ -19,12 +19,12 @@ pub last_piece : (text : List ℕ) → IsOpen text → lines text ≡ text ∷ [
 last_piece text none = slice_split_none is_lf text none
 
 pub text_line : (s : State) (n : ℕ) (E : List Event) (line rest : List ℕ) → IsOpen line
-    → text_from s n E (lines (line ++ 10 ∷ rest)) ≡ going_on (take_read s (line_in line)) n E (λ t D. text_from t (n + 1) D (lines rest))
+    → text_from s n E (lines (line ++ 10 ∷ rest)) ≡ going_on (take_read s (line_within (lines_top s.limits) line)) n E (λ t D. text_from t (n + 1) D (lines rest))
 unfolding text_from pieces_from
 text_line s n E line rest none =
     let more : (piece : List ℕ) × (pieces : List (List ℕ)) × (slice_split is_lf rest ≡ piece ∷ pieces) = first_piece rest in
     ap (text_from s n E) (first_line line rest none ∙ ap (λ ps. line ∷ ps) more.2)
-    ∙ ap (going_on (take_read s (line_in line)) n E) (fun_ext (λ t. fun_ext (λ D. sym (ap (text_from t (n + 1) D) more.2))))
+    ∙ ap (going_on (take_read s (line_within (lines_top s.limits) line)) n E) (fun_ext (λ t. fun_ext (λ D. sym (ap (text_from t (n + 1) D) more.2))))
 
 -- ---- answers after others
 pub behind_behind : (a b : List Answer) (o : Outcome) → behind a (behind b o) ≡ behind (a ++ b) o

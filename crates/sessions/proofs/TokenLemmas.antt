@@ -30,76 +30,76 @@ capped_is : (z : ℤ) → nat_abs z < 100000000 → literal_of_number z ≡ cond
 capped_is (pos n) h = ap Pos (omega arith)
 capped_is (negsuc n) h = let e : min 100000000 (suc n) ≡ suc n = omega arith in rw e refl
 
-pub number_ends : (line : ℕ) (z : ℤ) (c : LineRead) → nat_abs z ≡ 0 → read_number line z c ≡ Ok (record c { ended = true })
-number_ends line z c h = grind (arith, nat_tests)
+pub number_ends : (most line : ℕ) (z : ℤ) (c : LineRead) → nat_abs z ≡ 0 → read_number most line z c ≡ Ok (record c { ended = true })
+number_ends most line z c h = grind (arith, nat_tests)
 
-pub number_above : (line : ℕ) (z : ℤ) (c : LineRead) → 1000000 < nat_abs z → read_number line z c ≡ icnf.fault AboveLimit line
-number_above line z c h = grind (arith, nat_tests)
+pub number_above : (most line : ℕ) (z : ℤ) (c : LineRead) → most < nat_abs z → read_number most line z c ≡ icnf.fault AboveLimit line
+number_above most line z c h = grind (arith, nat_tests)
 
-pub number_reads : (line : ℕ) (z : ℤ) (c : LineRead) → 0 < nat_abs z → nat_abs z ≤ 1000000 → read_number line z c ≡ Ok (record c { literals = c.literals ++ literal_of_number z ∷ [] })
-number_reads line z c h k = grind (arith, nat_tests)
+pub number_reads : (most line : ℕ) (z : ℤ) (c : LineRead) → 0 < nat_abs z → nat_abs z ≤ most → read_number most line z c ≡ Ok (record c { literals = c.literals ++ literal_of_number z ∷ [] })
+number_reads most line z c h k = grind (arith, nat_tests)
 
-module _ (line : ℕ) (word : List ℕ) (c : LineRead) where
-  pub token_behind : c.ended ≡ true → read_token line word c ≡ icnf.fault ClauseNotEnded line
+module _ (most line : ℕ) (word : List ℕ) (c : LineRead) where
+  pub token_behind : c.ended ≡ true → read_token most line word c ≡ icnf.fault ClauseNotEnded line
   unfolding read_token
   token_behind e = rw e refl
 
-  pub token_is : (o : Option ℤ) → c.ended ≡ false → number word ≡ o → read_token line word c ≡ read_found line o c
+  pub token_is : (o : Option ℤ) → c.ended ≡ false → number word ≡ o → read_token most line word c ≡ read_found most line o c
   unfolding read_token
   token_is o e f = rw (e, f) refl
 
-  pub token_bad : c.ended ≡ false → option_map capped (number word) ≡ None → read_token line word c ≡ icnf.fault BadToken line
+  pub token_bad : c.ended ≡ false → option_map capped (number word) ≡ None → read_token most line word c ≡ icnf.fault BadToken line
   token_bad e h = token_is None e (no_number (number word) h)
 
   module _ (r : Number) (open_ : c.ended ≡ false) (found : option_map capped (number word) ≡ Some r) where
-    pub token_ends : r.size ≡ 0 → read_token line word c ≡ Ok (record c { ended = true })
+    pub token_ends : r.size ≡ 0 → read_token most line word c ≡ Ok (record c { ended = true })
     token_ends h =
         let z = some_number (number word) r found in
         let size : r.size ≡ min 100000000 (nat_abs z.0) = ap (λ (x : Number). x.size) (sym z.2) ∙ capped_size z.0 in
         let none : nat_abs z.0 ≡ 0 = omega arith in
-        token_is (Some z.0) open_ z.1 ∙ number_ends line z.0 c none
+        token_is (Some z.0) open_ z.1 ∙ number_ends most line z.0 c none
 
-    pub token_above : 1000000 < r.size → read_token line word c ≡ icnf.fault AboveLimit line
+    pub token_above : most < r.size → read_token most line word c ≡ icnf.fault AboveLimit line
     token_above h =
         let z = some_number (number word) r found in
         let size : r.size ≡ min 100000000 (nat_abs z.0) = ap (λ (x : Number). x.size) (sym z.2) ∙ capped_size z.0 in
-        token_is (Some z.0) open_ z.1 ∙ number_above line z.0 c (omega arith)
+        token_is (Some z.0) open_ z.1 ∙ number_above most line z.0 c (omega arith)
 
-    pub token_reads : (l : Literal) → 0 < r.size → r.size ≤ 1000000 → l ≡ cond r.negative (Neg r.size) (Pos r.size) → read_token line word c ≡ Ok (record c { literals = c.literals ++ l ∷ [] })
-    token_reads l h k e =
+    pub token_reads : (l : Literal) → most ≤ 99999999 → 0 < r.size → r.size ≤ most → l ≡ cond r.negative (Neg r.size) (Pos r.size) → read_token most line word c ≡ Ok (record c { literals = c.literals ++ l ∷ [] })
+    token_reads l few h k e =
         let z = some_number (number word) r found in
         let size : r.size ≡ min 100000000 (nat_abs z.0) = ap (λ (x : Number). x.size) (sym z.2) ∙ capped_size z.0 in
         let is : literal_of_number z.0 ≡ l = capped_is z.0 (omega arith) ∙ ap (λ (x : Number). cond x.negative (Neg x.size) (Pos x.size)) z.2 ∙ sym e in
-        token_is (Some z.0) open_ z.1 ∙ number_reads line z.0 c (omega arith) (omega arith) ∙ ap (λ (x : Literal). Ok (record c { literals = c.literals ++ x ∷ [] })) is
+        token_is (Some z.0) open_ z.1 ∙ number_reads most line z.0 c (omega arith) (omega arith) ∙ ap (λ (x : Literal). Ok (record c { literals = c.literals ++ x ∷ [] })) is
 
 -- ---- the tokens, one after the other
 
-module _ (line : ℕ) where
-  pub tokens_more : (ws more : List (List ℕ)) (w : List ℕ) (c next : LineRead) → ws ≡ w ∷ more → read_token line w c ≡ Ok next → read_tokens line ws c ≡ read_tokens line more next
+module _ (most line : ℕ) where
+  pub tokens_more : (ws more : List (List ℕ)) (w : List ℕ) (c next : LineRead) → ws ≡ w ∷ more → read_token most line w c ≡ Ok next → read_tokens most line ws c ≡ read_tokens most line more next
   unfolding read_tokens
   tokens_more ws more w c next e h = rw (e, h) refl
 
-  pub tokens_end : (ws : List (List ℕ)) (c : LineRead) → ws ≡ [] → read_tokens line ws c ≡ Ok c
+  pub tokens_end : (ws : List (List ℕ)) (c : LineRead) → ws ≡ [] → read_tokens most line ws c ≡ Ok c
   unfolding read_tokens
   tokens_end ws c e = rw e refl
 
-  tokens_fault : (ws more : List (List ℕ)) (w : List ℕ) (c : LineRead) (f : IcnfFault) → ws ≡ w ∷ more → read_token line w c ≡ Err f → read_tokens line ws c ≡ Err f
+  tokens_fault : (ws more : List (List ℕ)) (w : List ℕ) (c : LineRead) (f : IcnfFault) → ws ≡ w ∷ more → read_token most line w c ≡ Err f → read_tokens most line ws c ≡ Err f
   unfolding read_tokens
   tokens_fault ws more w c f e h = rw (e, h) refl
 
-  pub tokens_fail : (ws more : List (List ℕ)) (w : List ℕ) (c : LineRead) (f : IcnfFault) (all : Result LineRead IcnfFault) → ws ≡ w ∷ more → read_tokens line ws c ≡ all
-      → Fails no_memory f (read_token line w c) → Fails no_memory f all
-  tokens_fail ws more w c f all e so_far h = fails_by no_memory f (read_token line w c) all (λ is. sym so_far ∙ tokens_fault ws more w c f e is) h
+  pub tokens_fail : (ws more : List (List ℕ)) (w : List ℕ) (c : LineRead) (f : IcnfFault) (all : Result LineRead IcnfFault) → ws ≡ w ∷ more → read_tokens most line ws c ≡ all
+      → Fails no_memory f (read_token most line w c) → Fails no_memory f all
+  tokens_fail ws more w c f all e so_far h = fails_by no_memory f (read_token most line w c) all (λ is. sym so_far ∙ tokens_fault ws more w c f e is) h
 
 -- ---- the line's end
 
-module _ (line : ℕ) (ws : List (List ℕ)) (c : LineRead) (read : read_tokens line ws nothing_read ≡ Ok c) where
-  pub literals_are : c.ended ≡ true → literals_in line ws ≡ Ok c.literals
+module _ (most line : ℕ) (ws : List (List ℕ)) (c : LineRead) (read : read_tokens most line ws nothing_read ≡ Ok c) where
+  pub literals_are : c.ended ≡ true → literals_in most line ws ≡ Ok c.literals
   literals_are e = ap (λ (r : Result LineRead IcnfFault). r >>= end_line line) read ∙ ap (λ b. cond b (Ok c.literals) (icnf.fault ClauseNotEnded line)) e
 
-  pub literals_open : c.ended ≡ false → literals_in line ws ≡ icnf.fault ClauseNotEnded line
+  pub literals_open : c.ended ≡ false → literals_in most line ws ≡ icnf.fault ClauseNotEnded line
   literals_open e = ap (λ (r : Result LineRead IcnfFault). r >>= end_line line) read ∙ ap (λ b. cond b (Ok c.literals) (icnf.fault ClauseNotEnded line)) e
 
-pub literals_fail : (line : ℕ) (ws : List (List ℕ)) (f : IcnfFault) → Fails no_memory f (read_tokens line ws nothing_read) → Fails no_memory f (literals_in line ws)
-literals_fail line ws f h =
-    fails_by no_memory f (read_tokens line ws nothing_read) (literals_in line ws) (λ is. ap (λ (r : Result LineRead IcnfFault). r >>= end_line line) is) h
+pub literals_fail : (most line : ℕ) (ws : List (List ℕ)) (f : IcnfFault) → Fails no_memory f (read_tokens most line ws nothing_read) → Fails no_memory f (literals_in most line ws)
+literals_fail most line ws f h =
+    fails_by no_memory f (read_tokens most line ws nothing_read) (literals_in most line ws) (λ is. ap (λ (r : Result LineRead IcnfFault). r >>= end_line line) is) h

@@ -1,6 +1,7 @@
 -- The events that a text lists, or its first fault.
 use Rattle.std.specs.Prelude.{◌≡◌, ℕ, ◌+◌, ◌≤◌, ◌==◌, nat_lt, nat_le, Bool, false, true, List, [], ◌∷◌, ◌++◌, All, length, map, ℤ, nat_abs, Option, Some, None, Result, Ok, codes, bytes_eq, if◌then◌else◌}
 use Rattle.dimacs.specs.logic.Cnf.{literal_count}
+use Rattle.dimacs.specs.logic.Limits.{Limits}
 use Rattle.dimacs.specs.logic.Literal.{Literal, Clause, IsWithin, literal_of_number}
 use Rattle.dimacs.specs.text.Numbers.{number}
 use Rattle.dimacs.specs.text.Rows.{◌>>=◌, by_tokens}
@@ -26,17 +27,17 @@ abbrev pub literals_of : Event → List Literal
 literals_of (Given C) = C
 literals_of (Asked A) = A
 
--- a query has at most 1,000,000 literals
-abbrev pub IsShort : Event → Type 0
-IsShort (Given C) = Unit {0}
-IsShort (Asked A) = length A ≤ 1000000
+-- a query has at most this many literals
+abbrev pub IsShort : ℕ → Event → Type 0
+IsShort most (Given C) = Unit {0}
+IsShort most (Asked A) = length A ≤ most
 
--- the events are within the limits
-pub record AreEvents (E : List Event) : Type 0 where
-  pub clauses : length (clauses_of E) ≤ 4000000
-  pub literals : literal_count (clauses_of E) ≤ 50000000
-  pub within : All (λ e. All (IsWithin 1000000) (literals_of e)) E
-  pub short : All IsShort E
+-- the events are within limits: a query has at most as many literals as there may be variables
+pub record AreEventsWithin (L : Limits) (E : List Event) : Type 0 where
+  pub clauses : length (clauses_of E) ≤ L.clauses
+  pub literals : literal_count (clauses_of E) ≤ L.literals
+  pub within : All (λ e. All (IsWithin L.vars) (literals_of e)) E
+  pub short : All (IsShort L.vars) E
 
 -- the tokens of a line spell the event: the literals of a clause and 0; or the word `a`, the literals of a query and 0
 abbrev pub SpellsEvent : List (List ℕ) → Event → Type 0
@@ -61,12 +62,13 @@ AreHeaded [] E = ⊥
 AreHeaded (line ∷ more) E = by_tokens (words_of line) (AreHeaded more E) (λ header. IsHeader header × AreLines more E)
 
 -- the text spells the events, which are within the limits
-abbrev pub Spells : List ℕ → List Event → Type 0
-Spells text E = AreEvents E × AreHeaded (lines text) E
+abbrev pub SpellsWithin : Limits → List ℕ → List Event → Type 0
+SpellsWithin L text E = AreEventsWithin L E × AreHeaded (lines text) E
 
 -- ---- reading
--- what was read of the lines so far: whether the header was read, and how many clauses and literals of clauses
+-- what was read of the lines so far: whether the header was read, and how many clauses and literals of clauses; and the limits
 pub record Progress : Type 0 where
+  pub limits : Limits
   pub headed : Bool
   pub clauses : ℕ
   pub literals : ℕ
@@ -80,34 +82,35 @@ pub record LineRead : Type 0 where
 abbrev pub nothing_read : LineRead
 nothing_read = record { literals = []; ended = false }
 
--- line number (from 1), number z, what was read of the line before: z is read as a literal, or as the 0
-abbrev pub read_number : ℕ → ℤ → LineRead → Result LineRead IcnfFault
-read_number line z r =
+-- greatest variable, line number (from 1), number z, what was read of the line before: z is read as a literal, or as the 0
+abbrev pub read_number : ℕ → ℕ → ℤ → LineRead → Result LineRead IcnfFault
+read_number most line z r =
     if nat_abs z == 0 then Ok (record r { ended = true })
-    else if nat_lt 1000000 (nat_abs z) then icnf.fault AboveLimit line
+    else if nat_lt most (nat_abs z) then icnf.fault AboveLimit line
     else Ok (record r { literals = r.literals ++ literal_of_number z ∷ [] })
 
--- line number (from 1), number of a token, what was read of the line before: the number is read; a token without a number is a fault
-abbrev pub read_found : ℕ → Option ℤ → LineRead → Result LineRead IcnfFault
-read_found line None r = icnf.fault BadToken line
-read_found line (Some z) r = read_number line z r
+-- greatest variable, line number (from 1), number of a token, what was read of the line before: the number is read; a token without a
+-- number is a fault
+abbrev pub read_found : ℕ → ℕ → Option ℤ → LineRead → Result LineRead IcnfFault
+read_found most line None r = icnf.fault BadToken line
+read_found most line (Some z) r = read_number most line z r
 
--- line number (from 1), token, what was read of the line before: the token is read; after the 0 no token may stand
-unfoldable pub read_token : ℕ → List ℕ → LineRead → Result LineRead IcnfFault
-read_token line word r = if r.ended then icnf.fault ClauseNotEnded line else read_found line (number word) r
+-- greatest variable, line number (from 1), token, what was read of the line before: the token is read; after the 0 no token may stand
+unfoldable pub read_token : ℕ → ℕ → List ℕ → LineRead → Result LineRead IcnfFault
+read_token most line word r = if r.ended then icnf.fault ClauseNotEnded line else read_found most line (number word) r
 
--- line number (from 1), tokens, what was read of the line before: the tokens are read, up to the first fault
-unfoldable pub read_tokens : ℕ → List (List ℕ) → LineRead → Result LineRead IcnfFault
-read_tokens line [] r = Ok r
-read_tokens line (word ∷ more) r = read_token line word r >>= read_tokens line more
+-- greatest variable, line number (from 1), tokens, what was read of the line before: the tokens are read, up to the first fault
+unfoldable pub read_tokens : ℕ → ℕ → List (List ℕ) → LineRead → Result LineRead IcnfFault
+read_tokens most line [] r = Ok r
+read_tokens most line (word ∷ more) r = read_token most line word r >>= read_tokens most line more
 
 -- the literals of a line that ends here; its 0 has to be read
 abbrev pub end_line : ℕ → LineRead → Result (List Literal) IcnfFault
 end_line line r = if r.ended then Ok r.literals else icnf.fault ClauseNotEnded line
 
--- the literals that the tokens of the line of this number (from 1) spell, or its first fault
-abbrev pub literals_in : ℕ → List (List ℕ) → Result (List Literal) IcnfFault
-literals_in line tokens = read_tokens line tokens nothing_read >>= end_line line
+-- the literals, with variables up to `most`, that the tokens of the line of this number (from 1) spell, or its first fault
+abbrev pub literals_in : ℕ → ℕ → List (List ℕ) → Result (List Literal) IcnfFault
+literals_in most line tokens = read_tokens most line tokens nothing_read >>= end_line line
 
 -- the outcome of a line: what was read of the lines so far, and the line's event, if it has one; or the line's fault
 abbrev pub Row : Type 0
@@ -115,19 +118,20 @@ Row = Result (Progress × Option Event) IcnfFault
 
 -- line number (from 1), what was read of the lines before, query: the outcome of the line of a query
 abbrev pub put_query : ℕ → Progress → Cube → Row
-put_query line p A = if nat_lt 1000000 (length A) then icnf.fault AboveLimit line else Ok (p, Some (Asked A))
+put_query line p A = if nat_lt p.limits.vars (length A) then icnf.fault AboveLimit line else Ok (p, Some (Asked A))
 
 -- line number (from 1), what was read of the lines before, clause: the outcome of the line of a clause
 abbrev pub put_clause : ℕ → Progress → Clause → Row
 put_clause line p C =
-    if nat_le 4000000 p.clauses then icnf.fault AboveLimit line
-    else if nat_lt 50000000 (p.literals + length C) then icnf.fault AboveLimit line
+    if nat_le p.limits.clauses p.clauses then icnf.fault AboveLimit line
+    else if nat_lt p.limits.literals (p.literals + length C) then icnf.fault AboveLimit line
     else Ok (record p { clauses = p.clauses + 1; literals = p.literals + length C }, Some (Given C))
 
 -- line number (from 1), first token, other tokens, what was read of the lines before: the outcome of the line of an event
 abbrev pub read_event : ℕ → List ℕ → List (List ℕ) → Progress → Row
 read_event line word more p =
-    if bytes_eq word (codes "a") then (literals_in line more >>= put_query line p) else (literals_in line (word ∷ more) >>= put_clause line p)
+    if bytes_eq word (codes "a") then (literals_in p.limits.vars line more >>= put_query line p)
+    else (literals_in p.limits.vars line (word ∷ more) >>= put_clause line p)
 
 -- line number (from 1), tokens, what was read of the lines before: the outcome of the line
 unfoldable pub read_row : ℕ → List (List ℕ) → Progress → Row
@@ -145,10 +149,10 @@ unfoldable pub read_lines : ℕ → List (List ℕ) → Progress → Result (Lis
 read_lines n [] p = if p.headed then Ok [] else icnf.fault NoHeader n
 read_lines n (line ∷ more) p = read_row (n + 1) (words_of line) p >>= λ r. with_event r.1 (read_lines (n + 1) more r.0)
 
--- nothing was read of a text
-abbrev pub start : Progress
-start = record { headed = false; clauses = 0; literals = 0 }
+-- nothing was read of a text within the limits
+abbrev pub start : Limits → Progress
+start L = record { limits = L; headed = false; clauses = 0; literals = 0 }
 
--- the events of a text, or its first fault
-abbrev pub events_of : List ℕ → Result (List Event) IcnfFault
-events_of text = read_lines 0 (lines text) start
+-- the events of a text within the limits, or its first fault
+abbrev pub events_within : Limits → List ℕ → Result (List Event) IcnfFault
+events_within L text = read_lines 0 (lines text) (start L)

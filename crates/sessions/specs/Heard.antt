@@ -1,6 +1,7 @@
 -- The events that are heard of a text, line by line, up to its first fault.
 use Rattle.std.specs.Prelude.{ℕ, ◌+◌, max, List, [], ◌∷◌, Option, Some, None, Result, Ok, Err, if◌then◌else◌}
 use Rattle.dimacs.specs.logic.Cnf.{greatest_of}
+use Rattle.dimacs.specs.logic.Limits.{Limits}
 use Rattle.dimacs.specs.text.Words.{lines, words_of}
 use Rattle.icnf.specs.declared.fault.IcnfFault.{IcnfFault}
 use Rattle.icnf.specs.declared.fault.Kind.TheVariants.{NoHeader}
@@ -35,9 +36,9 @@ unfoldable pub heard_from : ℕ → List (List ℕ) → Progress → Heard
 heard_from n [] p = at_end n p
 heard_from n (line ∷ more) p = by_row (read_row (n + 1) (words_of line) p) (λ q. heard_from (n + 1) more q)
 
--- what is heard of a text
-abbrev pub heard : List ℕ → Heard
-heard text = heard_from 0 (lines text) start
+-- what is heard of a text within the limits
+abbrev pub heard_within : Limits → List ℕ → Heard
+heard_within L text = heard_from 0 (lines text) (start L)
 
 -- fault, events: the events of a whole text, or its fault
 abbrev pub outcome_by : Option IcnfFault → List Event → Result (List Event) IcnfFault

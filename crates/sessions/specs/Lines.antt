@@ -4,7 +4,7 @@ use Rattle.std.specs.Str.{byte}
 use Rattle.dimacs.specs.logic.Literal.{Literal, Clause}
 use Rattle.lrat_text.specs.Grammar.{space}
 use Rattle.lrat_text.specs.Log.{Cube}
-use Rattle.lrat_text.specs.Parser.{step_in}
+use Rattle.lrat_text.specs.Parser.{step_within}
 use Rattle.lrat_text.specs.declared.fault.TextFault.{TextFault}
 use Rattle.lrat_text.specs.declared.fault.TextFault.TheVariants.{BadToken}
 use Rattle.lrat_text.specs.declared.step.Step.{Step}
@@ -111,13 +111,13 @@ by_word (Some word) = Ok (Says word)
 abbrev pub status_in : List ℕ → Read
 status_in line = by_word (status_word line)
 
--- what a line of this kind says, or its first fault
-abbrev pub read_as : Kind → List ℕ → Read
-read_as (kind.Step k) line = by_step k (step_in (lrat_line k line))
-read_as kind.Says line = status_in line
-read_as kind.Silent line = Ok Silent
-read_as kind.Unknown line = Err BadToken
+-- what a line with variables up to `most` of this kind says, or its first fault
+abbrev pub read_as : ℕ → Kind → List ℕ → Read
+read_as most (kind.Step k) line = by_step k (step_within most (lrat_line k line))
+read_as most kind.Says line = status_in line
+read_as most kind.Silent line = Ok Silent
+read_as most kind.Unknown line = Err BadToken
 
--- what a line says, or its first fault
-abbrev pub line_in : List ℕ → Read
-line_in line = read_as (kind_of (slice_index line 0)) line
+-- what a line with variables up to `most` says, or its first fault
+abbrev pub line_within : ℕ → List ℕ → Read
+line_within most line = read_as most (kind_of (slice_index line 0)) line

@@ -1,5 +1,6 @@
 -- What is printed of a check of a session.
 use Rattle.std.specs.Prelude.{◌≡◌, ◌≢◌, ◌⊎◌, ℕ, ◌+◌, List, [], ◌++◌, Option, Some, None, Result, Ok, Err, OnOk, codes, decimal, length}
+use Rattle.dimacs.specs.logic.Limits.{Limits}
 use Rattle.icnf.specs.Faults.{number_of_kind}
 use Rattle.icnf.specs.declared.fault.IcnfFault.{IcnfFault}
 use Rattle.icnf.specs.declared.fault.Kind.TheVariants as kind
@@ -11,8 +12,8 @@ use Rattle.reports.specs.declared.refusal.Refusal.TheVariants as refusal
 use Rattle.reports.specs.declared.report.Report.{Report}
 use Rattle.sessions.specs.Answers.{Answer, AreRight, Event, queries, tally}
 use Rattle.sessions.specs.Check.{wanted}
-use Rattle.sessions.specs.Events.{Spells, events_of}
-use Rattle.sessions.specs.Texts.{session_of}
+use Rattle.sessions.specs.Events.{SpellsWithin, events_within}
+use Rattle.sessions.specs.Texts.{session_within}
 use Rattle.sessions.specs.declared.check.SessionCheck.{SessionCheck}
 use Rattle.sessions.specs.declared.check.SessionFault.{SessionFault}
 use Rattle.sessions.specs.declared.check.SessionFault.TheVariants as fault
@@ -71,26 +72,27 @@ abbrev pub IsVerdict : Option CheckFault → Tally → Report → Type 0
 IsVerdict None counts r = Printed (verified_text counts) 0 (Ok r)
 IsVerdict (Some f) before r = Printed (refused_text f before) 1 (Ok r)
 
--- events or their fault, text of the proof, report: the report of the proof beside these events; or of the first fault of the events, which
--- is printed before any fault of the proof
-abbrev pub IsReport : Result (List Event) IcnfFault → List ℕ → Report → Type 0
-IsReport (Ok E) proof r = IsVerdict (session_of E proof).fault (tally (session_of E proof).answers) r
-IsReport (Err f) proof r = Printed (events_text f) 1 (Ok r)
+-- limits, events or their fault, text of the proof, report: the report of the proof beside these events; or of the first fault of the
+-- events, which is printed before any fault of the proof
+abbrev pub IsReport : Limits → Result (List Event) IcnfFault → List ℕ → Report → Type 0
+IsReport L (Ok E) proof r = IsVerdict (session_within L E proof).fault (tally (session_within L E proof).answers) r
+IsReport L (Err f) proof r = Printed (events_text f) 1 (Ok r)
 
 -- events, answers, report: each query of the events has one of the answers, which is right for the clauses that are given before the query;
 -- and the report says how many answers are of each kind
 abbrev pub AreAnswered : List Event → List Answer → Report → Type 0
 AreAnswered E answers r = AreRight [] E answers × (length answers ≡ queries E) × (r.stdout.items ≡ verified_text (tally answers))
 
--- text of the events, report: the text spells events, each of whose queries has a right answer, which the report counts
-abbrev pub AnswersRight : List ℕ → Report → Type 0
-AnswersRight events r = (E : List Event) × Spells events E × ((answers : List Answer) × AreAnswered E answers r)
+-- limits, text of the events, report: the text spells events within the limits, each of whose queries has a right answer, which the report
+-- counts
+abbrev pub AnswersRight : Limits → List ℕ → Report → Type 0
+AnswersRight L events r = (E : List Event) × SpellsWithin L events E × ((answers : List Answer) × AreAnswered E answers r)
 
--- text of the events, text of the proof, report: the report of both texts. The status is 0 if and only if the text spells events and the
--- proof has no fault beside them; then each query has a right answer
-pub record ChecksSession (events proof : List ℕ) (r : Report) : Type 0 where
-  pub report : IsReport (events_of events) proof r
-  pub truth : r.status ≡ 0 → AnswersRight events r
+-- limits, text of the events, text of the proof, report: the report of both texts. The status is 0 if and only if the text spells events
+-- within the limits and the proof has no fault beside them; then each query has a right answer
+pub record ChecksSession (L : Limits) (events proof : List ℕ) (r : Report) : Type 0 where
+  pub report : IsReport L (events_within L events) proof r
+  pub truth : r.status ≡ 0 → AnswersRight L events r
 
 -- why a check has no report: memory was refused, or an input is still wanted
 abbrev pub HasNoReport : SessionCheck → Refusal → Type 0

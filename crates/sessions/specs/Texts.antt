@@ -1,8 +1,9 @@
 -- What a session's proof answers, line by line, up to its first fault.
-use Rattle.std.specs.Prelude.{ℕ, ◌+◌, ◌&&◌, not, nat_eq, nat_le, Bool, true, false, List, [], ◌∷◌, ◌++◌, Option, Some, None, Ok, Err, map, if◌then◌else◌}
+use Rattle.std.specs.Prelude.{ℕ, ◌+◌, ◌*◌, ◌&&◌, max, not, nat_eq, nat_le, Bool, true, false, List, [], ◌∷◌, ◌++◌, Option, Some, None, Ok, Err, map, if◌then◌else◌}
 use Rattle.std.specs.FinMap.{get, insert, remove, from_entries}
 use Rattle.std.specs.List.{list_any, list_all}
 use Rattle.dimacs.specs.logic.ClauseMap.{ClauseMap}
+use Rattle.dimacs.specs.logic.Limits.{Limits}
 use Rattle.dimacs.specs.logic.Literal.{Literal, Clause, has, negation}
 use Rattle.dimacs.specs.logic.Propagation.{Assumed}
 use Rattle.dimacs.specs.text.Words.{lines}
@@ -13,15 +14,16 @@ use Rattle.lrat_check.specs.declared.line_checker.CheckFault.{CheckFault}
 use Rattle.lrat_text.specs.Faults.{fault_number}
 use Rattle.lrat_text.specs.Log.{Cube}
 use Rattle.sessions.specs.Answers.{Event, Given, Asked, Answer, Satisfied, Failed, Unknown}
-use Rattle.sessions.specs.Lines.{Line, Gives, Asks, Learns, Deletes, Says, Shows, Fails, Silent, Read, line_in}
+use Rattle.sessions.specs.Lines.{Line, Gives, Asks, Learns, Deletes, Says, Shows, Fails, Silent, Read, line_within}
 use Rattle.sessions.specs.declared.kind.Status.{Status}
 use Rattle.sessions.specs.declared.kind.Status.TheVariants as status
 use Rattle.sessions.specs.declared.stage.Stage.{Stage}
 use Rattle.sessions.specs.declared.stage.Stage.TheVariants as stage
 
 -- The state between two lines: the numbers of the given clauses, in order; the live clauses and lemmas; the greatest number so far; the
--- stage of the last query, and its literals.
+-- stage of the last query, and its literals; and the limits of the events.
 pub record State : Type 0 where
+  pub limits : Limits
   pub given : List ℕ
   pub live : ClauseMap
   pub last : ℕ
@@ -186,21 +188,25 @@ abbrev pub end_of : State → ℕ → List Event → List ℕ → Outcome
 end_of s line E [] = if is_between s.stage then by_left line E else stopped line 22 0
 end_of s line E (b ∷ bs) = stopped line 1 2
 
+-- the greatest variable of a line: 2,000,000, or twice the variables that the events may have if that is more
+abbrev pub lines_top : Limits → ℕ
+lines_top L = max 2000000 (2 * L.vars)
+
 -- state, line number (from 1), events left, first piece, other pieces: what the text of these pieces between LFs answers; the first piece
 -- is the line of this number, and the last piece stands after the last LF
 unfoldable pub pieces_from : State → ℕ → List Event → List ℕ → List (List ℕ) → Outcome
 pieces_from s line E piece [] = end_of s line E piece
-pieces_from s line E piece (next ∷ pieces) = going_on (take_read s (line_in piece)) line E (λ t D. pieces_from t (line + 1) D next pieces)
+pieces_from s line E piece (next ∷ pieces) = going_on (take_read s (line_within (lines_top s.limits) piece)) line E (λ t D. pieces_from t (line + 1) D next pieces)
 
 -- state, line number (from 1), events left, pieces between LFs: what the text answers from here on; a text has at least one piece
 unfoldable pub text_from : State → ℕ → List Event → List (List ℕ) → Outcome
 text_from s line E [] = end_of s line E []
 text_from s line E (piece ∷ pieces) = pieces_from s line E piece pieces
 
--- the state before the first line
-abbrev pub begun : State
-begun = record { given = []; live = from_entries []; last = 0; stage = stage.Between; query = [] }
+-- the state before the first line of a proof beside events within the limits
+abbrev pub begun : Limits → State
+begun L = record { limits = L; given = []; live = from_entries []; last = 0; stage = stage.Between; query = [] }
 
--- events, text of a proof: the answers of the text beside these events, up to its first fault
-abbrev pub session_of : List Event → List ℕ → Outcome
-session_of E text = text_from begun 1 E (lines text)
+-- limits, events, text of a proof: the answers of the text beside these events, up to its first fault
+abbrev pub session_within : Limits → List Event → List ℕ → Outcome
+session_within L E text = text_from (begun L) 1 E (lines text)

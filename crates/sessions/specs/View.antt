@@ -6,7 +6,7 @@ use Rattle.sessions.specs.declared.stage.Stage.TheVariants as stage
 
 -- the state of a session in memory
 abbrev pub state_of : Known → State
-state_of x = record { given = x.numbers.given; live = x.rup; last = x.numbers.last; stage = x.stage; query = x.query.items }
+state_of x = record { limits = x.limits; given = x.numbers.given; live = x.rup; last = x.numbers.last; stage = x.stage; query = x.query.items }
 
 -- the state after the clause that is awaited has come
 abbrev pub reached_clause : Known → State

@@ -1,5 +1,7 @@
-//! A check of a session: its events and its proof come in pieces, each as far as it is wanted.
+//! A check of a session, of two texts: the events (clauses and queries of the user) and the proof
+//! (lemmas and answers of the solver). Each comes in pieces, and `wants` tells which is read next.
 
+ghost use Rattle.dimacs.specs.logic.Limits.{Limits, written};
 ghost use Rattle.std.specs.Prelude.{◌≡◌, ◌≢◌, ◌<◌, ◌≤◌, ℕ, List, [], ◌∷◌, ◌++◌, None, true, false, IfOk, length, take};
 ghost use Rattle.lrat_text.specs.Lines.{IsOpen};
 ghost use Rattle.sessions.specs.Check.{Finishes, HasTaken, KeepsEnds, events_ended, proof_ended, wanted};
@@ -10,6 +12,7 @@ ghost use Rattle.sessions.specs.inner.Sides.{fault_at};
 use crate::event_lines::{EventLines, Sent};
 use crate::proof_side::{Phase, ProofSide};
 use crate::tally::Tally;
+use dimacs::Limits;
 use icnf::{IcnfFault, Kind};
 use lrat_check::CheckFault;
 use lrat_text::cut_line;
@@ -64,16 +67,26 @@ impl Drop for SessionCheck {
 }
 
 impl SessionCheck {
-    /// A check that has taken no byte.
+    /// A check within the written limits that has taken no byte.
     pub fn new(alloc: Global) -> Result<SessionCheck, AllocError>
-        ensures taken { IfOk result (HasTaken [] []) }
+        ensures taken { IfOk result (HasTaken written [] []) }
         ensures events { IfOk result (λ x. events_ended x ≡ false) }
         ensures proof { IfOk result (λ x. proof_ended x ≡ false) }
     {
-        let proof = ProofSide::new(alloc)?;
+        SessionCheck::within(alloc, Limits::written())
+    }
+
+    /// A check within these limits that has taken no byte. The greatest variable of the proof is 2,000,000, or twice that of the limits if
+    /// it is more.
+    pub fn within(alloc: Global, limits: Limits) -> Result<SessionCheck, AllocError>
+        ensures taken { IfOk result (HasTaken limits [] []) }
+        ensures events { IfOk result (λ x. events_ended x ≡ false) }
+        ensures proof { IfOk result (λ x. proof_ended x ≡ false) }
+    {
+        let proof = ProofSide::new(alloc, limits)?;
         Ok(SessionCheck {
             proof,
-            events: EventLines::new(alloc),
+            events: EventLines::within(alloc, limits),
             read: 0,
             begun: Vec::new(alloc),
             fault: None,
@@ -106,7 +119,7 @@ impl SessionCheck {
         ensures few { result ≤ length piece.now }
         ensures some { wanted self.old ≡ Wants.Proof → 0 < length piece.now → 0 < result }
         ensures ends { KeepsEnds self.old self.new }
-        ensures taken { (e p : List ℕ) → HasTaken e p self.old → HasTaken e (p ++ take result piece.now) self.new }
+        ensures taken { (L : Limits) (e p : List ℕ) → HasTaken L e p self.old → HasTaken L e (p ++ take result piece.now) self.new }
     {
         match self.wants() {
             Wants::Proof => self.feed_reading(piece),
@@ -114,13 +127,14 @@ impl SessionCheck {
         }
     }
 
-    /// Takes bytes of the proof, which is wanted, up to the first LF. Answers how many bytes were taken.
+    /// Takes bytes of the proof up to the first LF, while `wants` names the proof. Answers how many
+    /// bytes were taken.
     fn feed_reading(&mut self, piece: &[u8]) -> usize
         requires { wanted self.old ≡ Wants.Proof }
         ensures few { result ≤ length piece.now }
         ensures some { 0 < length piece.now → 0 < result }
         ensures ends { KeepsEnds self.old self.new }
-        ensures taken { (e p : List ℕ) → HasTaken e p self.old → HasTaken e (p ++ take result piece.now) self.new }
+        ensures taken { (L : Limits) (e p : List ℕ) → HasTaken L e p self.old → HasTaken L e (p ++ take result piece.now) self.new }
     {
         self.proof.feed(piece)
     }
@@ -129,7 +143,7 @@ impl SessionCheck {
     pub fn end_proof(&mut self)
         ensures ended { ¬ (wanted self.new ≡ Wants.Proof) }
         ensures events { events_ended self.new ≡ events_ended self.old }
-        ensures taken { (e p : List ℕ) → HasTaken e p self.old → HasTaken e p self.new }
+        ensures taken { (L : Limits) (e p : List ℕ) → HasTaken L e p self.old → HasTaken L e p self.new }
     {
         match self.wants() {
             Wants::Proof => self.proof.end(),
@@ -137,7 +151,8 @@ impl SessionCheck {
         }
     }
 
-    /// Hands the event of a line, if it has one, to the proof's side.
+    /// Hands the event of a line to the proof's side, which awaits it; a line without an event,
+    /// such as a comment, hands nothing on.
     fn hear(&mut self, sent: Sent)
         requires { self.old.proof.phase ≢ Phase.Reading }
         ensures hears { HearsRow (event_of sent self.old.events.read.literals) self.old.proof self.new.proof }
@@ -152,7 +167,8 @@ impl SessionCheck {
         }
     }
 
-    /// Reads the line of events in `begun`, which has ended, and hands its event to the proof's side. A fault is kept for `finish`.
+    /// Reads the line of events in `begun`, which is complete, and hands its event to the proof's
+    /// side. A fault is kept for `finish`.
     fn end_row(&mut self)
         requires waits { self.old.proof.phase ≢ Phase.Reading }
         requires fine { self.old.fault ≡ None }
@@ -174,11 +190,11 @@ impl SessionCheck {
         }
     }
 
-    /// Appends a piece without LF to the line of events that has not ended.
+    /// Keeps a piece without LF in `begun`: the line of events goes on in the next piece.
     fn begin_with(&mut self, piece: &[u8])
         requires fine { self.old.fault ≡ None }
         requires more { self.old.proof.no_event ≡ false }
-        ensures taken { (e p : List ℕ) → IsOpen piece.now → HasTaken e p self.old → HasTaken (e ++ piece.now) p self.new }
+        ensures taken { (L : Limits) (e p : List ℕ) → IsOpen piece.now → HasTaken L e p self.old → HasTaken L (e ++ piece.now) p self.new }
         ensures ends { KeepsEnds self.old self.new }
     {
         match self.begun.extend_from_slice(piece) {
@@ -187,12 +203,12 @@ impl SessionCheck {
         }
     }
 
-    /// Appends the rest of a line of events, without its LF, and reads the line.
+    /// Completes the line of events in `begun` by these bytes, up to its LF, and reads it.
     fn end_with(&mut self, text: &[u8])
         requires waits { self.old.proof.phase ≢ Phase.Reading }
         requires fine { self.old.fault ≡ None }
         requires more { self.old.proof.no_event ≡ false }
-        ensures taken { (e p : List ℕ) → IsOpen text.now → HasTaken e p self.old → HasTaken (e ++ (text.now ++ 10 ∷ [])) p self.new }
+        ensures taken { (L : Limits) (e p : List ℕ) → IsOpen text.now → HasTaken L e p self.old → HasTaken L (e ++ (text.now ++ 10 ∷ [])) p self.new }
         ensures ends { KeepsEnds self.old self.new }
     {
         match self.begun.extend_from_slice(text) {
@@ -207,7 +223,7 @@ impl SessionCheck {
         ensures few { result ≤ length piece.now }
         ensures some { wanted self.old ≡ Wants.Events → 0 < length piece.now → 0 < result }
         ensures ends { KeepsEnds self.old self.new }
-        ensures taken { (e p : List ℕ) → HasTaken e p self.old → HasTaken (e ++ take result piece.now) p self.new }
+        ensures taken { (L : Limits) (e p : List ℕ) → HasTaken L e p self.old → HasTaken L (e ++ take result piece.now) p self.new }
     {
         match self.wants() {
             Wants::Events => self.feed_waiting(piece),
@@ -215,13 +231,14 @@ impl SessionCheck {
         }
     }
 
-    /// Takes bytes of the events, which are wanted, up to the first LF. Answers how many bytes were taken.
+    /// Takes bytes of the events up to the first LF, while `wants` names the events. Answers how
+    /// many bytes were taken.
     fn feed_waiting(&mut self, piece: &[u8]) -> usize
         requires { wanted self.old ≡ Wants.Events }
         ensures few { result ≤ length piece.now }
         ensures some { 0 < length piece.now → 0 < result }
         ensures ends { KeepsEnds self.old self.new }
-        ensures taken { (e p : List ℕ) → HasTaken e p self.old → HasTaken (e ++ take result piece.now) p self.new }
+        ensures taken { (L : Limits) (e p : List ℕ) → HasTaken L e p self.old → HasTaken L (e ++ take result piece.now) p self.new }
     {
         match cut_line(piece) {
             Some((text, _)) => {
@@ -235,7 +252,7 @@ impl SessionCheck {
         }
     }
 
-    /// Keeps the fault of events that have ended without a header, unless they have a fault already.
+    /// Notes the fault of events that end without a header, unless they have a fault already.
     fn close(&mut self)
         ensures { self.new ≡ record self.old { fault = closing self.old.fault self.old.events.progress.headed self.old.read } }
     {
@@ -252,12 +269,12 @@ impl SessionCheck {
         }
     }
 
-    /// Ends the events, which are wanted: the bytes after the last LF are the last line.
+    /// Ends the events, while `wants` names them: the bytes after the last LF are their last line.
     fn end_waiting(&mut self)
         requires { wanted self.old ≡ Wants.Events }
         ensures ended { self.new.proof.no_event ≡ true }
         ensures byte { self.new.proof.no_byte ≡ self.old.proof.no_byte }
-        ensures taken { (e p : List ℕ) → HasTaken e p self.old → HasTaken e p self.new }
+        ensures taken { (L : Limits) (e p : List ℕ) → HasTaken L e p self.old → HasTaken L e p self.new }
     {
         self.end_row();
         self.proof.end_events();
@@ -268,7 +285,7 @@ impl SessionCheck {
     pub fn end_events(&mut self)
         ensures ended { ¬ (wanted self.new ≡ Wants.Events) }
         ensures proof { proof_ended self.new ≡ proof_ended self.old }
-        ensures taken { (e p : List ℕ) → HasTaken e p self.old → HasTaken e p self.new }
+        ensures taken { (L : Limits) (e p : List ℕ) → HasTaken L e p self.old → HasTaken L e p self.new }
     {
         match self.wants() {
             Wants::Events => self.end_waiting(),
@@ -276,7 +293,7 @@ impl SessionCheck {
         }
     }
 
-    /// The fault (18) of a line whose event is awaited after the events have ended.
+    /// The fault (18) of a line of the proof that waits for an event after the events have ended.
     fn unheard(&self) -> SessionFault
         ensures { result ≡ SessionFault.Proof (fault_at self.now.proof.line 18 0) self.now.proof.lines.known.tally }
     {
@@ -293,7 +310,7 @@ impl SessionCheck {
     /// Answers how many answers of each kind there are, all of them right; or the first fault. Err is `Unfinished` if an input is still
     /// wanted.
     pub fn finish(&self) -> Result<Tally, SessionFault>
-        ensures { (e p : List ℕ) → HasTaken e p self.now → Finishes e p self.now result }
+        ensures { (L : Limits) (e p : List ℕ) → HasTaken L e p self.now → Finishes L e p self.now result }
     {
         if let Some(fault) = self.fault {
             return Err(SessionFault::Events(fault));

@@ -1,5 +1,6 @@
 //! Reads the lines of a text of events, one after the other.
 
+ghost use Rattle.dimacs.specs.logic.Limits.{written};
 ghost use Rattle.std.specs.Prelude.{◌≡◌, ◌≢◌, ℕ, ◌+◌, List, [], ◌∷◌, IfOk, OnOk, IfErr, None, Some, Ok, bytes_eq, codes};
 ghost use Rattle.dimacs.specs.text.Words.{words, words_of};
 ghost use Rattle.icnf.specs.Parser.{read_header};
@@ -7,20 +8,11 @@ ghost use Rattle.sessions.specs.Events.{put_clause, put_query, read_event, read_
 ghost use Rattle.sessions.specs.Rows.{GivesRow};
 
 use crate::line_literals::{LineLiterals, fault};
-use dimacs::Lit;
 use dimacs::words::{is_comment, next_word};
+use dimacs::{Limits, Lit};
 use icnf::{IcnfFault, Kind, read_header};
 use std::alloc::Global;
 use std::marker::Model;
-
-/// The most clauses that a text of events may give.
-const CLAUSES: u32 = 4_000_000;
-
-/// The most literals of all clauses together.
-const LITERALS: usize = 50_000_000;
-
-/// The most literals of a query.
-const QUERY: usize = 1_000_000;
 
 /// What a line of events says.
 #[derive(Clone, Copy)]
@@ -33,8 +25,9 @@ pub enum Sent {
     Query,
 }
 
-/// The reader of events: what it has counted so far, and the literals of the last event, whose buffer is reused.
+/// The reader of events: its limits, what it has counted so far, and the literals of the last event, whose buffer is reused.
 pub struct EventLines {
+    limits: Limits,
     /// Whether the header was read.
     headed: bool,
     /// How many clauses were read.
@@ -51,14 +44,15 @@ impl Model for EventLines {
 
     ghost Value = { Held };
 
-    ghost view = { λ x. record { progress = record { headed = x.headed; clauses = x.clauses; literals = x.total }; read = x.literals } };
+    ghost view = { λ x. record { progress = record { limits = x.limits; headed = x.headed; clauses = x.clauses; literals = x.total }; read = x.literals } };
 
-    ghost invariant = { λ x. (x.clauses ≤ 4000000) × (x.total ≤ 50000000) };
+    ghost invariant = { λ x. (x.clauses ≤ x.limits.clauses) × (x.total ≤ x.limits.literals) };
 }
 
 impl Drop for EventLines {
     fn drop(self) {
         let EventLines {
+            limits: _,
             headed: _,
             clauses: _,
             total: _,
@@ -75,12 +69,21 @@ fn is_mark(word: &[u8]) -> bool
 }
 
 impl EventLines {
-    /// A reader that has read no line.
+    /// A reader that has read no line, within the written limits.
     pub fn new(alloc: Global) -> EventLines
-        ensures progress { result.progress ≡ start }
+        ensures progress { result.progress ≡ start written }
+        ensures literals { result.read.literals ≡ [] }
+    {
+        EventLines::within(alloc, Limits::written())
+    }
+
+    /// A reader within these limits that has read no line. A query has at most as many literals as there may be variables.
+    pub fn within(alloc: Global, limits: Limits) -> EventLines
+        ensures progress { result.progress ≡ start limits }
         ensures literals { result.read.literals ≡ [] }
     {
         EventLines {
+            limits,
             headed: false,
             clauses: 0,
             total: 0,
@@ -95,6 +98,13 @@ impl EventLines {
         self.literals.as_slice()
     }
 
+    /// Answers the limits on the variables, clauses and literals of the events.
+    pub fn limits(&self) -> Limits
+        ensures { result ≡ self.now.progress.limits }
+    {
+        self.limits
+    }
+
     /// Answers whether the header was read.
     pub fn is_headed(&self) -> bool
         ensures { result ≡ self.now.progress.headed }
@@ -105,10 +115,12 @@ impl EventLines {
     /// Counts a clause whose literals were read. Err if there would be too many clauses or literals.
     fn put_clause(&mut self, line: u64) -> Result<Sent, IcnfFault>
         ensures row { GivesRow self.new result (put_clause line self.old.progress self.old.read.literals) }
+        ensures limits { self.new.progress.limits ≡ self.old.progress.limits }
         ensures says { IfOk result (λ sent. sent ≡ Sent.Clause) }
     {
         let count = self.literals.as_slice().len();
-        if self.clauses >= CLAUSES || count > LITERALS - self.total as usize {
+        let most = self.limits.literals() as usize;
+        if self.clauses >= self.limits.clauses() || count > most - self.total as usize {
             return Err(fault(Kind::AboveLimit, line));
         }
         self.clauses += 1;
@@ -121,7 +133,7 @@ impl EventLines {
         ensures row { GivesRow self.now result (put_query line self.now.progress self.now.read.literals) }
         ensures says { IfOk result (λ sent. sent ≡ Sent.Query) }
     {
-        if self.literals.as_slice().len() > QUERY {
+        if self.literals.as_slice().len() > self.limits.vars() as usize {
             return Err(fault(Kind::AboveLimit, line));
         }
         Ok(Sent::Query)
@@ -138,21 +150,25 @@ impl EventLines {
     ) -> Result<Sent, IcnfFault>
         requires { words text.now ≡ word.now ∷ words after.now }
         ensures row { GivesRow self.new result (read_event line word.now (words after.now) self.old.progress) }
+        ensures limits { self.new.progress.limits ≡ self.old.progress.limits }
         ensures says { IfOk result (λ sent. sent ≢ Sent.Nothing) }
     {
+        let most = self.limits.vars();
         if is_mark(word) {
-            self.literals.read(line, after)?;
+            self.literals.read(most, line, after)?;
             return self.put_query(line);
         }
-        self.literals.read(line, text)?;
+        self.literals.read(most, line, text)?;
         self.put_clause(line)
     }
 
     /// Reads the line of this number, from 1; `text` has the line without its LF. Answers what the line says; Err is the line's first
-    /// fault. After an Err nothing is promised of the reader.
+    /// fault. After an Err nothing else is promised of the reader.
     #[tactic(auto, unfolding(crate::specs::Events::read_row))]
     pub fn read(&mut self, line: u64, text: &[u8]) -> Result<Sent, IcnfFault>
         ensures row { GivesRow self.new result (read_row line (words_of text.now) self.old.progress) }
+        // the limits stay, also after a fault
+        ensures limits { self.new.progress.limits ≡ self.old.progress.limits }
         // a line without an event leaves the literals of the last one
         ensures kept { IfOk result (λ sent. sent ≡ Sent.Nothing → self.new.read.literals ≡ self.old.read.literals) }
     {

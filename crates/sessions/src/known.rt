@@ -1,6 +1,6 @@
 //! The state of a checked session: its clauses, lemmas and open query, and what each line of the proof does to it.
 
-ghost use Rattle.std.specs.Prelude.{◌≡◌, ◌<◌, ◌+◌, Some, None, OnOk, OnErr, IfOk, IfErr, MatchResult, map};
+ghost use Rattle.std.specs.Prelude.{◌≡◌, ◌<◌, ◌≤◌, ◌+◌, Some, None, OnOk, OnErr, IfOk, IfErr, MatchResult, map};
 ghost use Rattle.std.specs.FinMap.{get};
 ghost use Rattle.std.specs.List.{list_all};
 ghost use Rattle.dimacs.specs.logic.Literal.{has, negation};
@@ -8,7 +8,7 @@ ghost use Rattle.lrat_text.specs.Steps.{step_of};
 ghost use Rattle.lrat_text.specs.declared.step.Step.TheVariants as owned;
 ghost use Rattle.sessions.specs.Answers.{Given, Asked, Satisfied, Failed, one_more, counted};
 ghost use Rattle.sessions.specs.Lines.{said};
-ghost use Rattle.sessions.specs.Texts.{Goes as goes_to, Awaits, asks, begun, core_fault, deletes, fails, gives, is_between, is_met, is_model, learns, listed, says, shows, without};
+ghost use Rattle.sessions.specs.Texts.{Goes as goes_to, Awaits, asks, begun, core_fault, deletes, fails, gives, is_between, is_met, is_model, learns, lines_top, listed, says, shows, without};
 ghost use Rattle.sessions.specs.View.{reached_clause, reached_query, state_of};
 ghost use Rattle.sessions.specs.inner.Acting.{Comes, Refused, Stays, no_answers, told};
 ghost use Rattle.sessions.specs.inner.Sets.{set_in};
@@ -19,7 +19,7 @@ use crate::literal_set::LiteralSet;
 use crate::numbers::Numbers;
 use crate::stage::Stage;
 use crate::tally::Tally;
-use dimacs::Lit;
+use dimacs::{Limits, Lit};
 use lrat_check::RupChecker;
 use lrat_text::{Groups, StepRef, TextFault};
 use std::alloc::{AllocError, Global};
@@ -38,6 +38,8 @@ pub(crate) enum Came {
 
 /// The state of a session between two lines of its proof. Each call that may answer Err answers `NoMemory` if memory is refused.
 pub(crate) struct Known {
+    /// The limits on the events.
+    pub(crate) limits: Limits,
     /// The live clauses and lemmas, by their numbers.
     pub(crate) rup: RupChecker,
     /// The numbers of the given clauses, and the greatest number so far.
@@ -61,6 +63,7 @@ pub(crate) struct Known {
 impl Drop for Known {
     fn drop(self) {
         let Known {
+            limits: _,
             rup: _,
             numbers: _,
             stage: _,
@@ -73,6 +76,9 @@ impl Drop for Known {
         } = self;
     }
 }
+
+/// The greatest variable of a line under the written limits, which no limits lower.
+const WRITTEN: u32 = 2_000_000;
 
 /// The fault (1) of a line that has hints, groups or a number which its kind of line does not have.
 const BAD: LineFault = LineFault::Text(TextFault::BadToken);
@@ -89,7 +95,7 @@ const NO_MODEL: LineFault = LineFault::OfLine(20);
 /// Fault 21: the core has a literal that is none of the query's.
 const NOT_ASKED: LineFault = LineFault::OfLine(21);
 
-/// Answers `count` + 1; Err(NoMemory) if that is above 64 bits.
+/// Answers `count` + 1, for a count of answers; Err(NoMemory) if that is above 64 bits.
 fn next(count: u64) -> Result<u64, LineFault>
     ensures { MatchResult result (λ n. n ≡ count + 1) (λ f. f ≡ LineFault.NoMemory) }
 {
@@ -107,7 +113,7 @@ fn copy(lits: &[Lit], copied: &mut Vec<Lit>) -> Result<(), AllocError>
     copied.extend_from_slice(lits)
 }
 
-/// Overwrites `negated` with the negations of literals.
+/// Overwrites `negated` with the negations of a core's literals: the clause that has to follow.
 fn negate(lits: &[Lit], negated: &mut Vec<Lit>) -> Result<(), AllocError>
     ensures { OnOk result (negated.new.items ≡ map negation lits.now) }
 {
@@ -118,7 +124,8 @@ fn negate(lits: &[Lit], negated: &mut Vec<Lit>) -> Result<(), AllocError>
     Ok(())
 }
 
-/// Deletes the lemmas of these numbers. Given clauses stay, and numbers that are not live are passed over.
+/// Deletes the lemmas of these numbers from the checker. Given clauses stay, since a model has to
+/// satisfy them all, and numbers that are not live are passed over.
 fn forget(rup: &mut RupChecker, numbers: &Numbers, ids: &[u64])
     ensures { rup.new ≡ without numbers.now.given rup.old ids.now }
 {
@@ -129,7 +136,8 @@ fn forget(rup: &mut RupChecker, numbers: &Numbers, ids: &[u64])
     }
 }
 
-/// Answers whether a literal of the clause of this number is in the set; false if no clause of this number is live.
+/// Answers whether the clause of this number has a literal in the set, so that the model satisfies
+/// it; false if no clause of this number is live.
 fn is_met(rup: &RupChecker, set: &LiteralSet, id: u64) -> bool
     ensures { result ≡ is_met (set_in set.now.stamps.items set.now.stamp) (get rup.now id) }
 {
@@ -153,12 +161,13 @@ fn are_met(rup: &RupChecker, set: &LiteralSet, given: &[u64]) -> bool
 
 impl Known {
     /// The state before the first line.
-    pub(crate) fn new(alloc: Global) -> Result<Known, AllocError>
-        ensures state { IfOk result (λ x. state_of x ≡ begun) }
+    pub(crate) fn new(alloc: Global, limits: Limits) -> Result<Known, AllocError>
+        ensures state { IfOk result (λ x. state_of x ≡ begun limits) }
         ensures tally { IfOk result (λ x. x.tally ≡ no_answers) }
     {
         let rup = RupChecker::new(alloc)?;
         Ok(Known {
+            limits,
             rup,
             numbers: Numbers::new(alloc),
             stage: Stage::Between,
@@ -175,6 +184,14 @@ impl Known {
         })
     }
 
+    /// Answers the greatest variable of a line.
+    pub(crate) fn lines_top(&self) -> u32
+        ensures value { result ≡ lines_top self.now.limits }
+        ensures most { result ≤ 199999999 }
+    {
+        WRITTEN.max(2 * self.limits.vars())
+    }
+
     /// Answers whether no query is open.
     pub(crate) fn is_between(&self) -> bool
         ensures { result ≡ is_between self.now.stage }
@@ -185,7 +202,8 @@ impl Known {
         }
     }
 
-    /// Takes line `i`: the next event has to be this clause. Err if a query is open or the number does not rise.
+    /// Takes line `i` of the proof: keeps its clause, which the next event has to give. Err if a
+    /// query is open or the number does not rise.
     fn await_clause(&mut self, id: u64, lits: &[Lit]) -> Result<(), LineFault>
         ensures took { OnOk result (gives (state_of self.old) id lits.now ≡ Awaits (Given self.new.awaited.items) (reached_clause self.new)) }
         ensures tally { self.new.tally ≡ self.old.tally }
@@ -203,7 +221,8 @@ impl Known {
         Ok(())
     }
 
-    /// Takes line `q`: the next event has to be this query. Err if a query is open.
+    /// Takes line `q` of the proof: keeps its query, which the next event has to ask. Err if a
+    /// query is open.
     fn await_query(&mut self, lits: &[Lit]) -> Result<(), LineFault>
         ensures took { OnOk result (asks (state_of self.old) lits.now ≡ Awaits (Asked self.new.awaited.items) (reached_query self.new)) }
         ensures tally { self.new.tally ≡ self.old.tally }
@@ -216,7 +235,8 @@ impl Known {
         Ok(())
     }
 
-    /// Adds the awaited clause, which has come as an event. Err only if memory is refused, as its number was tested.
+    /// Adds the awaited clause to the checker, now that the event has given it. Err only if memory
+    /// is refused, as its number was tested.
     pub(crate) fn give(&mut self) -> Result<(), LineFault>
         ensures took { OnOk result (state_of self.new ≡ reached_clause self.old) }
         ensures tally { self.new.tally ≡ self.old.tally }
@@ -230,7 +250,7 @@ impl Known {
         Ok(())
     }
 
-    /// Opens the awaited query, which has come as an event.
+    /// Opens the awaited query, now that the event has asked it.
     pub(crate) fn ask(&mut self)
         ensures took { state_of self.new ≡ reached_query self.old }
         ensures tally { self.new.tally ≡ self.old.tally }
@@ -398,7 +418,8 @@ impl Known {
 }
 
 impl Known {
-    /// Takes a line of this kind whose line of LRAT text is an addition. Answers what the line waits for; Err is its first fault.
+    /// Takes a line of this kind, by the LRAT addition that stands for it. Answers which event the
+    /// line waits for, if any; Err is its first fault.
     fn take_addition(
         &mut self,
         kind: StepKind,
@@ -448,7 +469,8 @@ impl Known {
         }
     }
 
-    /// Takes a line of this kind whose line of LRAT text is this step. Answers what the line waits for; Err is its first fault.
+    /// Takes a line of this kind, by the LRAT step that stands for it. Answers which event the line
+    /// waits for, if any; Err is its first fault.
     pub(crate) fn take(&mut self, kind: StepKind, step: StepRef<'_>) -> Result<Came, LineFault>
         ensures came { IfOk result (λ came. Comes came (said kind (step_of step.entry)) self.old self.new) }
         ensures kept { OnErr result (self.new.tally ≡ self.old.tally) }

@@ -1,6 +1,6 @@
 //! The literals of a line of events.
 
-ghost use Rattle.std.specs.Prelude.{◌≡◌, ℕ, List, option_map};
+ghost use Rattle.std.specs.Prelude.{◌≡◌, ◌≤◌, ℕ, List, option_map};
 ghost use Rattle.dimacs.specs.inner.Capped.{capped};
 ghost use Rattle.dimacs.specs.inner.Rows.{Gives};
 ghost use Rattle.dimacs.specs.text.Numbers.{number};
@@ -14,9 +14,6 @@ use dimacs::number::{Number, next_number};
 use icnf::{IcnfFault, Kind};
 use std::alloc::Global;
 use std::marker::Model;
-
-/// The greatest variable that an event may have.
-const VARIABLES: u32 = 1_000_000;
 
 /// The literals of a line, and whether its `0` was read. The buffer is reused from line to line.
 #[derive(Drop)]
@@ -60,7 +57,7 @@ impl LineLiterals {
         &self.literals
     }
 
-    /// Empties the buffer for a new line.
+    /// Empties the buffer for the literals of a new line.
     fn begin(&mut self)
         ensures { self.new ≡ nothing_read }
     {
@@ -76,9 +73,10 @@ impl LineLiterals {
     }
 
     /// Reads a token, by the number that it spells; `None` if it spells none. Err if it spells none, comes after the `0`, or is above the
-    /// limit.
-    fn read_token(&mut self, line: u64, found: Option<Number>) -> Result<(), IcnfFault>
-        ensures { (word : List ℕ) → found ≡ option_map capped (number word) → Gives no_memory self.new result (read_token line word self.old) }
+    /// limit. Variables are at most `most`.
+    fn read_token(&mut self, most: u32, line: u64, found: Option<Number>) -> Result<(), IcnfFault>
+        requires { most ≤ 99999999 }
+        ensures { (word : List ℕ) → found ≡ option_map capped (number word) → Gives no_memory self.new result (read_token most line word self.old) }
     {
         if self.ended {
             return Err(fault(Kind::ClauseNotEnded, line));
@@ -90,7 +88,7 @@ impl LineLiterals {
             self.ended = true;
             return Ok(());
         }
-        if number.size > VARIABLES {
+        if number.size > most {
             return Err(fault(Kind::AboveLimit, line));
         }
         self.literals.push(number.literal())?;
@@ -98,24 +96,26 @@ impl LineLiterals {
     }
 
     /// Reads the tokens of `text`, which is in the line of this number, from 1. Err is their first fault.
-    fn read_tokens(&mut self, line: u64, text: &[u8]) -> Result<(), IcnfFault>
-        ensures { Gives no_memory self.new result (read_tokens line (words text.now) self.old) }
+    fn read_tokens(&mut self, most: u32, line: u64, text: &[u8]) -> Result<(), IcnfFault>
+        requires { most ≤ 99999999 }
+        ensures { Gives no_memory self.new result (read_tokens most line (words text.now) self.old) }
     {
         let mut rest = text;
         while let Some((number, after)) = next_number(rest) {
-            self.read_token(line, number)?;
+            self.read_token(most, line, number)?;
             rest = after;
         }
         Ok(())
     }
 
     /// Reads the literals of `text`, which is in the line of this number, from 1, up to its `0`. Err is the line's first fault, also if the
-    /// `0` is missing.
-    pub(crate) fn read(&mut self, line: u64, text: &[u8]) -> Result<(), IcnfFault>
-        ensures { GivesLiterals self.new result (literals_in line (words text.now)) }
+    /// `0` is missing. Variables are at most `most`.
+    pub(crate) fn read(&mut self, most: u32, line: u64, text: &[u8]) -> Result<(), IcnfFault>
+        requires { most ≤ 99999999 }
+        ensures { GivesLiterals self.new result (literals_in most line (words text.now)) }
     {
         self.begin();
-        self.read_tokens(line, text)?;
+        self.read_tokens(most, line, text)?;
         if !self.has_ended() {
             return Err(fault(Kind::ClauseNotEnded, line));
         }

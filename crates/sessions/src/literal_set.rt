@@ -22,7 +22,7 @@ fn grow(stamps: &mut Vec<u64>, places: usize) -> Result<(), AllocError>
     Ok(())
 }
 
-/// Puts a literal into the set of this stamp.
+/// Puts a literal into the set: gives its cell the set's present stamp.
 fn insert(stamps: &mut Vec<u64>, stamp: u64, literal: Lit) -> Result<(), AllocError>
     requires { AllAtMost stamp stamps.old.items }
     ensures put { OnOk result (set_in stamps.new.items stamp ≡ with_literal (set_in stamps.old.items stamp) literal) }
@@ -72,7 +72,7 @@ impl LiteralSet {
         }
     }
 
-    /// Clears the set. Err if the new stamp is above 64 bits.
+    /// Clears the set by a new stamp, which no cell has. Err if the stamp is above 64 bits.
     fn clear(&mut self) -> Result<(), AllocError>
         ensures { OnOk result (set_in self.new.stamps.items self.new.stamp ≡ has []) }
     {
@@ -85,7 +85,7 @@ impl LiteralSet {
         }
     }
 
-    /// Overwrites the set with these literals.
+    /// Overwrites the set with these literals, in time linear in their number.
     pub(crate) fn hold(&mut self, lits: &[Lit]) -> Result<(), AllocError>
         ensures { OnOk result (set_in self.new.stamps.items self.new.stamp ≡ has lits.now) }
     {
@@ -96,7 +96,8 @@ impl LiteralSet {
         Ok(())
     }
 
-    /// Overwrites the set with these literals. Answers true if one of them is the negation of another one; then the set is unspecified.
+    /// Overwrites the set with these literals, if no literal stands with its negation. Answers true
+    /// if one does; then the set is unspecified.
     pub(crate) fn hold_apart(&mut self, lits: &[Lit]) -> Result<bool, AllocError>
         ensures pair { IfOk result (λ b. b ≡ is_tautology lits.now) }
         ensures holds { IfOk result (λ b. OnFalse b (set_in self.new.stamps.items self.new.stamp ≡ has lits.now)) }

@@ -66,7 +66,7 @@ impl Numbers {
         find(&self.given, number)
     }
 
-    /// Makes the number of a lemma the greatest one so far.
+    /// Notes the number of a lemma as the greatest one so far.
     pub(crate) fn learn(&mut self, number: u64)
         requires { self.old.last < number }
         ensures { self.new ≡ record self.old { last = number } }
@@ -74,7 +74,7 @@ impl Numbers {
         self.last = number;
     }
 
-    /// Appends the number of a given clause, which becomes the greatest one so far.
+    /// Notes the number of a given clause, which becomes the greatest one so far.
     pub(crate) fn give(&mut self, number: u64) -> Result<(), AllocError>
         requires { self.old.last < number }
         ensures ok { OnOk result (self.new ≡ record { given = self.old.given ++ number ∷ []; last = number }) }

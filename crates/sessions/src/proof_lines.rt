@@ -1,16 +1,17 @@
 //! Reads a line of a session's proof, and changes the state as the line says.
 
 ghost use Rattle.std.specs.Prelude.{◌≡◌, OnErr, IfOk, IfErr, bytes_eq};
-ghost use Rattle.lrat_text.specs.Parser.{step_in};
-ghost use Rattle.sessions.specs.Lines.{by_step, line_in, lrat_line, status_in, status_word};
-ghost use Rattle.sessions.specs.Texts.{begun};
+ghost use Rattle.lrat_text.specs.Parser.{step_within};
+ghost use Rattle.sessions.specs.Lines.{by_step, line_within, lrat_line, status_in, status_word};
+ghost use Rattle.sessions.specs.Texts.{begun, lines_top};
 ghost use Rattle.sessions.specs.View.{state_of};
 ghost use Rattle.sessions.specs.inner.Acting.{Comes, Stays, fault_of_text, no_answers};
 
 use crate::fault::LineFault;
 use crate::kind::{Kind, Status, StepKind, kind_of_line, spell};
 use crate::known::{Came, Known};
-use lrat_text::{StepBuffer, TextFault, read_line};
+use dimacs::Limits;
+use lrat_text::{StepBuffer, TextFault, read_line_within};
 use std::alloc::{AllocError, Global};
 
 /// The fault of a line that cannot be read, by the fault of its line of LRAT text.
@@ -67,11 +68,11 @@ impl Drop for ProofLines {
 
 impl ProofLines {
     /// A reader that has read no line, with the state before the first line.
-    pub(crate) fn new(alloc: Global) -> Result<ProofLines, AllocError>
-        ensures state { IfOk result (λ x. state_of x.known ≡ begun) }
+    pub(crate) fn new(alloc: Global, limits: Limits) -> Result<ProofLines, AllocError>
+        ensures state { IfOk result (λ x. state_of x.known ≡ begun limits) }
         ensures tally { IfOk result (λ x. x.known.tally ≡ no_answers) }
     {
-        let known = Known::new(alloc)?;
+        let known = Known::new(alloc, limits)?;
         Ok(ProofLines {
             known,
             buffer: StepBuffer::new(alloc),
@@ -81,12 +82,12 @@ impl ProofLines {
 
     /// Takes a line of a kind that has numbers. Answers what the line waits for; Err is its first fault.
     fn take_step(&mut self, kind: StepKind, line: &[u8]) -> Result<Came, LineFault>
-        ensures came { IfOk result (λ came. Comes came (by_step kind (step_in (lrat_line kind line.now))) self.old.known self.new.known) }
+        ensures came { IfOk result (λ came. Comes came (by_step kind (step_within (lines_top self.old.known.limits) (lrat_line kind line.now))) self.old.known self.new.known) }
         ensures kept { OnErr result (self.new.known.tally ≡ self.old.known.tally) }
-        ensures refused { IfErr result (Stays self.old.known (by_step kind (step_in (lrat_line kind line.now)))) }
+        ensures refused { IfErr result (Stays self.old.known (by_step kind (step_within (lines_top self.old.known.limits) (lrat_line kind line.now)))) }
     {
         spell(kind, line, &mut self.spelled)?;
-        match read_line(&mut self.buffer, &self.spelled) {
+        match read_line_within(&mut self.buffer, self.known.lines_top(), &self.spelled) {
             Ok(()) => {}
             Err(fault) => return Err(not_read(fault)),
         }
@@ -108,9 +109,9 @@ impl ProofLines {
 
     /// Takes a line of the proof, without its LF. Answers what the line waits for; Err is its first fault.
     pub(crate) fn take(&mut self, line: &[u8]) -> Result<Came, LineFault>
-        ensures came { IfOk result (λ came. Comes came (line_in line.now) self.old.known self.new.known) }
+        ensures came { IfOk result (λ came. Comes came (line_within (lines_top self.old.known.limits) line.now) self.old.known self.new.known) }
         ensures kept { OnErr result (self.new.known.tally ≡ self.old.known.tally) }
-        ensures refused { IfErr result (Stays self.old.known (line_in line.now)) }
+        ensures refused { IfErr result (Stays self.old.known (line_within (lines_top self.old.known.limits) line.now)) }
     {
         match kind_of_line(line) {
             Kind::Step(kind) => self.take_step(kind, line),

@@ -1,5 +1,6 @@
 //! The proof's side of a check: takes the proof's bytes line by line, and the events that its lines await.
 
+ghost use Rattle.dimacs.specs.logic.Limits.{Limits};
 ghost use Rattle.std.specs.Prelude.{◌≡◌, ◌≢◌, ◌==◌, ◌<◌, ◌≤◌, ℕ, List, [], ◌∷◌, ◌++◌, true, IfOk, length, take};
 ghost use Rattle.icnf.specs.Comparison.{is_clause};
 ghost use Rattle.lrat_text.specs.Lines.{IsOpen};
@@ -13,7 +14,7 @@ use crate::event_lines::Sent;
 use crate::fault::LineFault;
 use crate::known::Came;
 use crate::proof_lines::ProofLines;
-use dimacs::Lit;
+use dimacs::{Limits, Lit};
 use lrat_check::CheckFault;
 use lrat_text::cut_line;
 use std::alloc::{AllocError, Global};
@@ -33,7 +34,7 @@ pub(crate) enum Phase {
     Stopped(CheckFault),
 }
 
-/// The fault of a proof whose line of this number, from 1, has this fault.
+/// The fault of the proof, if its line of this number, from 1, was refused.
 fn refused(fault: LineFault, line: u64) -> CheckFault
     ensures { result ≡ refusal_of fault line }
 {
@@ -90,10 +91,10 @@ impl Drop for ProofSide {
 
 impl ProofSide {
     /// A proof's side that has taken no byte.
-    pub(crate) fn new(alloc: Global) -> Result<ProofSide, AllocError>
-        ensures { IfOk result IsFirst }
+    pub(crate) fn new(alloc: Global, limits: Limits) -> Result<ProofSide, AllocError>
+        ensures { IfOk result (IsFirst limits) }
     {
-        let lines = ProofLines::new(alloc)?;
+        let lines = ProofLines::new(alloc, limits)?;
         Ok(ProofSide {
             lines,
             phase: Phase::Reading,
@@ -104,7 +105,8 @@ impl ProofSide {
         })
     }
 
-    /// Stops the proof at a fault of the current line.
+    /// Stops reading the proof at a fault of its current line: the fault's number, and its second
+    /// number if the line cannot be read.
     fn stop(&mut self, number: u8, text: u8)
         ensures { self.new ≡ record self.old { phase = Phase.Stopped (fault_at self.old.line number text) } }
     {
@@ -115,7 +117,8 @@ impl ProofSide {
         });
     }
 
-    /// Waits for the event of this phase, or stops with fault 18 if the events have ended.
+    /// Stops reading the proof until the event comes that this phase awaits, or stops with fault 18
+    /// if the events have ended.
     fn await_event(&mut self, phase: Phase)
         ensures { self.new ≡ record self.old { phase = awaiting self.old.no_event self.old.line phase } }
     {
@@ -126,7 +129,8 @@ impl ProofSide {
         }
     }
 
-    /// Goes on to the next line, or stops as out of memory if its number is above 64 bits.
+    /// Goes on to the next line of the proof, or stops as out of memory if its number is above 64
+    /// bits.
     fn next_line(&mut self)
         ensures moves { MovesOn self.old self.new }
         ensures flag { self.new.no_event ≡ self.old.no_event }
@@ -154,7 +158,7 @@ impl ProofSide {
         }
     }
 
-    /// Takes the line in `begun`, which has ended. Stops at its fault.
+    /// Takes the line of the proof in `begun`, which is complete. Stops at its fault.
     fn end_line(&mut self)
         ensures ends { EndsLine self.old self.new }
         ensures flag { self.new.no_event ≡ self.old.no_event }
@@ -168,9 +172,10 @@ impl ProofSide {
         }
     }
 
-    /// Appends a piece without LF to the line that has not ended. Stops if memory is refused.
+    /// Keeps a piece without LF in `begun`: the line of the proof goes on in the next piece. Stops
+    /// if memory is refused.
     fn begin_with(&mut self, piece: &[u8])
-        ensures follows { (E : List Event) (p : List ℕ) → self.old.phase ≡ Phase.Reading → IsOpen piece.now → Follows E p self.old → Follows E (p ++ piece.now) self.new }
+        ensures follows { (L : Limits) (E : List Event) (p : List ℕ) → self.old.phase ≡ Phase.Reading → IsOpen piece.now → Follows L E p self.old → Follows L E (p ++ piece.now) self.new }
         ensures flag { self.new.no_event ≡ self.old.no_event }
         ensures byte { self.new.no_byte ≡ self.old.no_byte }
     {
@@ -180,9 +185,9 @@ impl ProofSide {
         }
     }
 
-    /// Appends the rest of a line, without its LF, and takes the line.
+    /// Completes the line of the proof in `begun` by these bytes, up to its LF, and takes it.
     fn end_with(&mut self, text: &[u8])
-        ensures follows { (E : List Event) (p : List ℕ) → self.old.phase ≡ Phase.Reading → IsOpen text.now → Follows E p self.old → Follows E (p ++ (text.now ++ 10 ∷ [])) self.new }
+        ensures follows { (L : Limits) (E : List Event) (p : List ℕ) → self.old.phase ≡ Phase.Reading → IsOpen text.now → Follows L E p self.old → Follows L E (p ++ (text.now ++ 10 ∷ [])) self.new }
         ensures flag { self.new.no_event ≡ self.old.no_event }
         ensures byte { self.new.no_byte ≡ self.old.no_byte }
     {
@@ -197,7 +202,7 @@ impl ProofSide {
         requires { self.old.phase ≡ Phase.Reading }
         ensures few { result ≤ length piece.now }
         ensures some { 0 < length piece.now → 0 < result }
-        ensures follows { (E : List Event) (p : List ℕ) → Follows E p self.old → Follows E (p ++ take result piece.now) self.new }
+        ensures follows { (L : Limits) (E : List Event) (p : List ℕ) → Follows L E p self.old → Follows L E (p ++ take result piece.now) self.new }
         ensures flag { self.new.no_event ≡ self.old.no_event }
         ensures byte { self.new.no_byte ≡ self.old.no_byte }
     {
@@ -213,7 +218,8 @@ impl ProofSide {
         }
     }
 
-    /// Adds the awaited clause, which has come as an event, and goes on to the next line.
+    /// Adds the awaited clause, which the event has given, and goes on to the next line of the
+    /// proof.
     fn give(&mut self)
         ensures gives { IsHigh Phase.Clause self.old.lines.known → Gives self.old self.new }
         ensures flag { self.new.no_event ≡ self.old.no_event }
@@ -264,7 +270,8 @@ impl ProofSide {
         }
     }
 
-    /// Takes an event while no line of the proof is wanted: the awaited one, or after the proof's end fault 22. Ignores it after a fault.
+    /// Takes an event at a time when no line of the proof is awaited. It is compared with the line
+    /// of the proof that awaits it; after the proof's end it is fault 22; after a fault it is ignored.
     pub(crate) fn hear(&mut self, sent: Sent, lits: &[Lit])
         requires { self.old.phase ≢ Phase.Reading }
         ensures hears { (e : Event) → IsHigh self.old.phase self.old.lines.known → IsEvent sent lits.now e → Hears self.old e self.new }
@@ -279,7 +286,7 @@ impl ProofSide {
         }
     }
 
-    /// Ends the events. Stops with fault 18 if one is awaited.
+    /// Notes that the events have ended. Stops with fault 18 if one is awaited.
     pub(crate) fn end_events(&mut self)
         ensures ends { IsHigh self.old.phase self.old.lines.known → EndsEvents self.old self.new }
         ensures flag { self.new.no_event ≡ true }
@@ -292,7 +299,8 @@ impl ProofSide {
         }
     }
 
-    /// Ends the proof, whose next line is wanted. Stops with fault 1 if a line has not ended, and with fault 22 if a query is open.
+    /// Ends the proof at a time when its next line is awaited. Stops with fault 1 if a line has not
+    /// ended, and with fault 22 if a query is open.
     pub(crate) fn end(&mut self)
         ensures ends { EndsProof self.old self.new }
         ensures flag { self.new.no_event ≡ self.old.no_event }

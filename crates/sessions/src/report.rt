@@ -1,5 +1,6 @@
 //! What is printed of a check of a session.
 
+ghost use Rattle.dimacs.specs.logic.Limits.{Limits};
 ghost use Rattle.std.specs.Prelude.{◌≡◌, ◌++◌, ℕ, List, Ok, OnOk, IfOk, IfErr, MatchResult, None};
 ghost use Rattle.sessions.specs.Check.{HasTaken, OfTexts};
 ghost use Rattle.sessions.specs.Reports.{ChecksSession, HasNoReport, Reports, ReportsFault, count_text, events_text, refused_tail, refused_text, total, verified_tail, verified_text};
@@ -11,7 +12,7 @@ use lrat_check::CheckFault;
 use reports::{Refusal, Report, put_fault, put_number};
 use std::alloc::{AllocError, Global};
 
-/// Answers how many answers there are. Err if the number is above 64 bits.
+/// Answers how many queries were answered. Err if the number is above 64 bits.
 fn total(t: Tally) -> Result<u64, AllocError>
     ensures { IfOk result (λ n. n ≡ total t) }
 {
@@ -32,7 +33,7 @@ fn put_count(out: &mut Vec<u8>, count: u64, words: &[u8]) -> Result<(), AllocErr
     out.extend_from_slice(words)
 }
 
-/// Appends how many answers of each kind there are.
+/// Appends how many queries were answered, and how many of each kind.
 fn put_tally(out: &mut Vec<u8>, t: Tally) -> Result<(), AllocError>
     ensures { OnOk result (out.new.items ≡ out.old.items ++ verified_tail t) }
 {
@@ -73,7 +74,7 @@ fn refused(alloc: Global, fault: CheckFault, before: Tally) -> Result<Report, Al
     Ok(report)
 }
 
-/// The report of events with this first fault: status 1.
+/// The report of events that have a fault: the line and the fault's number; status 1.
 fn faulty(alloc: Global, fault: IcnfFault) -> Result<Report, AllocError>
     ensures text { IfOk result (λ r. r.stdout.items ≡ events_text fault) }
     ensures status { IfOk result (λ r. r.status ≡ 1) }
@@ -128,8 +129,8 @@ pub fn session_report(alloc: Global, answer: Result<Tally, SessionFault>) -> Res
 /// The report of a check of both texts; it does not depend on the bytes of a text that are not read. Err is the refusal of a check that has
 /// no report.
 pub fn check_report(alloc: Global, check: &SessionCheck) -> Result<Report, Refusal>
-    ensures texts { (e p : List ℕ) → HasTaken e p check.now → OfTexts e p check.now (λ events proof. IfOk result (ChecksSession events proof)) }
-    ensures refusal { (e p : List ℕ) → HasTaken e p check.now → IfErr result (HasNoReport check.now) }
+    ensures texts { (L : Limits) (e p : List ℕ) → HasTaken L e p check.now → OfTexts e p check.now (λ events proof. IfOk result (ChecksSession L events proof)) }
+    ensures refusal { (L : Limits) (e p : List ℕ) → HasTaken L e p check.now → IfErr result (HasNoReport check.now) }
 {
     session_report(alloc, check.finish())
 }

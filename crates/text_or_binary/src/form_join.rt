@@ -5,8 +5,9 @@ ghost use Rattle.dimacs.specs.logic.Cnf.{Cnf};
 ghost use Rattle.text_or_binary.specs.FormJoin.{HasReadFormFiles};
 ghost use Rattle.icnf.specs.Leaves.{Cube};
 ghost use Rattle.leaves.specs.Join.{Concludes, IsFileOutcome};
-ghost use Rattle.lrat_forms.specs.Forms.{is_binary, text_form};
+ghost use Rattle.lrat_forms.specs.Forms.{is_binary, text_form_within};
 ghost use Rattle.lrat_forms.specs.Pieces.{is_cut};
+ghost use Rattle.lrat_text.specs.Log.{log_top};
 
 use leaves::{FileOutcome, Join, Split};
 use log_join::LogJoinFault;
@@ -40,11 +41,8 @@ impl FormJoin {
         ensures out { IfOk result (λ j. j.join.lines.out.items ≡ []) }
     {
         let join = Join::of(alloc, split)?;
-        Ok(FormJoin {
-            alloc,
-            form: TextForm::new(alloc),
-            join,
-        })
+        let form = TextForm::within(alloc, join.most());
+        Ok(FormJoin { alloc, form, join })
     }
 
     /// Reads the next piece of the file. It errs if memory runs out or a clause number would reach 2^48; then the join is of no use.
@@ -68,12 +66,13 @@ impl FormJoin {
         self.form.is_binary()
     }
 
-    /// Ends the file, after which the next one may begin, and answers what the file is. After an error the join is of no use.
+    /// Ends the file, after which the next one may begin, and answers its outcome: it closes leaves
+    /// or none, satisfies the formula, or is refused. After an error the join is of no use.
     pub fn end(&mut self) -> Result<FileOutcome, LogJoinFault>
         ensures holds { OnOk result ((F : Cnf) (cubes : List Cube) (files : List (List ℕ)) (bytes written : List ℕ)
             → HasReadFormFiles F cubes files bytes written self.old → HasReadFormFiles F cubes (files ++ bytes ∷ []) [] written self.new) }
         ensures tells { IfOk result (λ e. (F : Cnf) (cubes : List Cube) (files : List (List ℕ)) (bytes written : List ℕ)
-            → HasReadFormFiles F cubes files bytes written self.old → IsFileOutcome F cubes (map text_form files) (text_form bytes) e) }
+            → HasReadFormFiles F cubes files bytes written self.old → IsFileOutcome F cubes (map (text_form_within (log_top F)) files) (text_form_within (log_top F) bytes) e) }
         ensures whole { OnOk result (is_cut self.old.form.stage ≡ false) }
     {
         if self.form.is_cut() {
@@ -81,27 +80,28 @@ impl FormJoin {
         }
         self.join.feed(self.form.rest())?;
         let end = self.join.end()?;
-        self.form = TextForm::new(self.alloc);
+        self.form = TextForm::within(self.alloc, self.join.most());
         Ok(end)
     }
 
-    /// Gives the file up, if it cannot be read to its end: what was read of it closes nothing. After an error the join is of no use.
+    /// Gives the file up if it cannot be read to its end: what was read of it closes no leaf. After
+    /// an error the join is of no use.
     pub fn abandon(&mut self) -> Result<(), LogJoinFault>
         ensures holds { OnOk result ((F : Cnf) (cubes : List Cube) (files : List (List ℕ)) (bytes written : List ℕ)
             → HasReadFormFiles F cubes files bytes written self.old → HasReadFormFiles F cubes files [] written self.new) }
     {
-        self.form = TextForm::new(self.alloc);
+        self.form = TextForm::within(self.alloc, self.join.most());
         self.join.abandon()
     }
 
-    /// Answers the bytes of the proof that are not handed out yet.
+    /// Lends the bytes of the proof that were written since the last call of `forget`.
     pub fn written(&self) -> &[u8]
         ensures { result.now ≡ self.now.join.lines.out.items }
     {
         self.join.written()
     }
 
-    /// Drops the bytes that `written` answers: they are handed out.
+    /// Drops the bytes that `written` lends, after the caller has stored them.
     pub fn forget(&mut self)
         ensures holds { (F : Cnf) (cubes : List Cube) (files : List (List ℕ)) (bytes written : List ℕ)
             → HasReadFormFiles F cubes files bytes written self.old → HasReadFormFiles F cubes files bytes (written ++ self.old.join.lines.out.items) self.new }
@@ -114,7 +114,7 @@ impl FormJoin {
     /// forms of the files. After it `written` answers the last bytes of the proof.
     pub fn finish(&mut self, notes: Vec<u8>) -> Result<Report, LogJoinFault>
         ensures { IfOk result (λ r. (F : Cnf) (cubes : List Cube) (files : List (List ℕ)) (written : List ℕ)
-            → HasReadFormFiles F cubes files [] written self.old → Concludes F cubes (map text_form files) [] written notes.items self.new.join r) }
+            → HasReadFormFiles F cubes files [] written self.old → Concludes F cubes (map (text_form_within (log_top F)) files) [] written notes.items self.new.join r) }
     {
         if self.form.is_cut() {
             return Err(LogJoinFault::NoMemory);

@@ -7,15 +7,16 @@ ghost use Rattle.icnf.specs.Leaves.{Cube};
 ghost use Rattle.leaves.specs.Leaf.{leaf_of};
 ghost use Rattle.leaves.specs.LeafLift.{EndsLifted};
 ghost use Rattle.lrat_check.specs.ProofFaults.{no_memory};
-ghost use Rattle.lrat_forms.specs.Forms.{is_binary, text_form};
+ghost use Rattle.lrat_forms.specs.Forms.{is_binary, text_form_within};
 ghost use Rattle.lrat_forms.specs.Pieces.{is_cut};
-ghost use Rattle.lrat_text.specs.Log.{Closes};
+ghost use Rattle.lrat_text.specs.Log.{Closes, log_top};
 ghost use Rattle.proof_lift.specs.Leaves.{IsRefutation};
 ghost use Rattle.proof_lift.specs.Stream.{IsFaultOf};
 
 use leaves::{Lift, Split};
 use lrat_check::CheckFault;
 use lrat_forms::TextForm;
+use lrat_text::log_top;
 use std::alloc::{AllocError, Global};
 
 /// Lifts a proof of the formula of a leaf to a log over the formula that closes the leaf, as `leaves::Lift` does. The proof may have either
@@ -41,9 +42,10 @@ impl FormLift {
     pub fn of(alloc: Global, split: Split, leaf: u64) -> Result<Option<FormLift>, AllocError>
         ensures { IfOk result (BeginsFormLeaf split.formula split.tree leaf) }
     {
+        let most = log_top(split.formula().as_base());
         match Lift::of(alloc, split, leaf)? {
             Some(lift) => Ok(Some(FormLift {
-                form: TextForm::new(alloc),
+                form: TextForm::within(alloc, most),
                 lift,
             })),
             None => Ok(None),
@@ -52,22 +54,22 @@ impl FormLift {
 
     /// Takes the next piece of the proof. A fault is kept for `finish`.
     pub fn feed(&mut self, piece: &[u8])
-        ensures { (F : Cnf) (q : Cube) (bytes written : List ℕ) → HasTakenFormProof F q bytes written self.old → HasTakenFormProof F q (bytes ++ piece.now) written self.new }
+        ensures { (F : Cnf) (q : Cube) (bytes handed : List ℕ) → HasTakenFormProof F q bytes handed self.old → HasTakenFormProof F q (bytes ++ piece.now) handed self.new }
     {
         self.form.feed(piece);
         self.lift.feed(self.form.given(piece));
     }
 
-    /// Answers the bytes of the log that are not handed out yet.
+    /// Lends the bytes of the log that were written since the last call of `forget`.
     pub fn written(&self) -> &[u8]
         ensures { result.now ≡ self.now.lift.out.items }
     {
         self.lift.written()
     }
 
-    /// Drops the bytes that `written` answers: they are handed out.
+    /// Drops the bytes that `written` lends, after the caller has stored them.
     pub fn forget(&mut self)
-        ensures stands { (F : Cnf) (q : Cube) (bytes written : List ℕ) → HasTakenFormProof F q bytes written self.old → HasTakenFormProof F q bytes (written ++ self.old.lift.out.items) self.new }
+        ensures stands { (F : Cnf) (q : Cube) (bytes handed : List ℕ) → HasTakenFormProof F q bytes handed self.old → HasTakenFormProof F q bytes (handed ++ self.old.lift.out.items) self.new }
         ensures out { self.new.lift.out.items ≡ [] }
     {
         self.lift.forget();
@@ -75,7 +77,7 @@ impl FormLift {
 
     /// Whether the proof is in binary form, so that its fault is that of a step and not of a line. If memory was refused it is not known.
     pub fn is_binary(&self) -> bool
-        ensures { (F : Cnf) (q : Cube) (bytes written : List ℕ) → HasTakenFormProof F q bytes written self.now → is_cut self.now.form.stage ≡ false → result ≡ is_binary bytes }
+        ensures { (F : Cnf) (q : Cube) (bytes handed : List ℕ) → HasTakenFormProof F q bytes handed self.now → is_cut self.now.form.stage ≡ false → result ≡ is_binary bytes }
     {
         self.form.is_binary()
     }
@@ -83,11 +85,11 @@ impl FormLift {
     /// Ends the proof: answers the bytes of the log that are not handed out yet, or the first fault of the proof, as an error.
     pub fn finish(self) -> Result<Vec<u8>, CheckFault>
         // Whatever came in, the bytes handed out and those that are left are a log over the formula that closes the leaf.
-        ensures closes { IfOk result (λ rest. (F : Cnf) (q : Cube) (bytes written : List ℕ) → HasTakenFormProof F q bytes written self → Closes F q (written ++ rest.items)) }
+        ensures closes { IfOk result (λ rest. (F : Cnf) (q : Cube) (bytes handed : List ℕ) → HasTakenFormProof F q bytes handed self → Closes F q (handed ++ rest.items)) }
         // A refutation of the leaf's formula by reverse unit propagation alone is refused only if memory is refused.
-        ensures complete { (F : Cnf) (q : Cube) (bytes written : List ℕ) → HasTakenFormProof F q bytes written self → IsRefutation (leaf_of q F) (text_form bytes) → EndsLifted result }
+        ensures complete { (F : Cnf) (q : Cube) (bytes handed : List ℕ) → HasTakenFormProof F q bytes handed self → IsRefutation (leaf_of q F) (text_form_within (log_top F) bytes) → EndsLifted result }
         // The fault is the first one of the proof's text form, with its line; the line is the step of a binary proof.
-        ensures exact { IfErr result (λ fault. (F : Cnf) (q : Cube) (bytes written : List ℕ) → HasTakenFormProof F q bytes written self → (fault ≡ no_memory) ⊎ IsFaultOf F q (text_form bytes) fault) }
+        ensures exact { IfErr result (λ fault. (F : Cnf) (q : Cube) (bytes handed : List ℕ) → HasTakenFormProof F q bytes handed self → (fault ≡ no_memory) ⊎ IsFaultOf F q (text_form_within (log_top F) bytes) fault) }
         ensures wanting { is_cut self.form.stage ≡ true → result ≡ Err no_memory }
     {
         let FormLift { form, mut lift } = self;

@@ -5,13 +5,15 @@ ghost use Rattle.dimacs.specs.logic.Cnf.{Cnf};
 ghost use Rattle.text_or_binary.specs.FormTrim.{HasTakenForm};
 ghost use Rattle.lrat_check.specs.ProofFaults.{no_memory};
 ghost use Rattle.lrat_check.specs.Stream.{answer_in};
-ghost use Rattle.lrat_forms.specs.Forms.{is_binary, text_form};
+ghost use Rattle.lrat_forms.specs.Forms.{is_binary, text_form_within};
 ghost use Rattle.lrat_forms.specs.Pieces.{is_cut};
+ghost use Rattle.lrat_text.specs.Proof.{proof_top};
 ghost use Rattle.lrat_trim.specs.TrimmedProof.{Trims};
 
 use dimacs::Formula;
 use lrat_check::CheckFault;
 use lrat_forms::TextForm;
+use lrat_text::proof_top;
 use lrat_trim::{Trimmed, Trimmer};
 use std::alloc::{AllocError, Global};
 
@@ -37,8 +39,9 @@ impl FormTrimming {
     pub fn new(alloc: Global, formula: Formula) -> Result<FormTrimming, AllocError>
         ensures { IfOk result (λ t. HasTakenForm formula t []) }
     {
+        let most = proof_top(&formula);
         Ok(FormTrimming {
-            form: TextForm::new(alloc),
+            form: TextForm::within(alloc, most),
             trimming: Trimmer::new(alloc, formula)?,
         })
     }
@@ -68,7 +71,7 @@ impl FormTrimming {
     /// Ends the proof: answers the proof without the lines that its empty clause does not need; it errs with the first fault of a proof
     /// that is not accepted.
     pub fn finish(self) -> Result<Trimmed, CheckFault>
-        ensures trims { (F : Cnf) (proof : List ℕ) → HasTakenForm F self proof → Trims F (text_form proof) result }
+        ensures trims { (F : Cnf) (proof : List ℕ) → HasTakenForm F self proof → Trims F (text_form_within (proof_top F) proof) result }
         ensures wanting { is_cut self.form.stage ≡ true → result ≡ Err no_memory }
     {
         let FormTrimming { form, mut trimming } = self;

@@ -1,5 +1,5 @@
--- The law of unit propagation (Handbook of Satisfiability, chapter 4). It is over a relation from numbers to clauses, so that it fits a
--- trail, a trail cut to a level, a checker and an arena.
+-- The law of unit propagation (Handbook of Satisfiability, chapter 4). Its live clauses are a relation from numbers to clauses, so that it
+-- fits a trail, a trail cut to a level, a checker and an arena.
 use Rattle.std.specs.Prelude.{◌≡◌, ◌≢◌, ℕ, List, [], ◌∷◌, ◌++◌, Some, None, Contains, ◌↔◌, length, map}
 use Rattle.dimacs.specs.logic.Literal.{Literal, Clause}
 use Rattle.dimacs.specs.logic.ClauseMap.{Live}
@@ -9,19 +9,19 @@ use Rattle.clause_arena.specs.Clauses.{Clauses}
 use Rattle.watches.specs.declared.trail.Assigned.{Assigned}
 use Rattle.watches.specs.Trails.{TrailValue, holds, present}
 
--- a clause that is neither false nor unit
+-- a clause's property: under the assignment α it is neither false nor unit
 abbrev pub NeitherFalseNorUnit : Assumed → Clause → Type 0
 NeitherFalseNorUnit α C = ¬ (IsFalse α C) × ((l : Literal) → ¬ (IsUnit α C l))
 
--- no live clause is false or unit
+-- an assignment's property: under it no live clause is false or unit
 abbrev pub NoneFalseOrUnit : Live → Assumed → Type 0
 NoneFalseOrUnit live α = (n : ℕ) (C : Clause) → live n C → NeitherFalseNorUnit α C
 
--- the live clauses among some numbers
+-- the live clauses whose numbers are among the attached ones
 abbrev pub live_among : List ℕ → Live → Live
 live_among attached live = λ n C. Contains attached n × live n C
 
--- the entry's reason is a live clause that was unit with its literal when it was pushed, at the level that was present then
+-- an entry's property: its reason is a live clause that was unit with its literal when it was pushed, at the level that was present then
 pub record IsImplied (live : Live) (entries : List Assigned) (e : Assigned) : Type 0 where
   pub number : ℕ
   pub clause : Clause
@@ -30,12 +30,12 @@ pub record IsImplied (live : Live) (entries : List Assigned) (e : Assigned) : Ty
   pub unit : IsUnit (holds entries) clause e.literal
   pub level : e.level ≡ present entries
 
--- `more` was pushed on `entries`, each entry implied when it was pushed
+-- `more` was pushed on `entries`, and each entry was implied by a live clause when it was pushed
 abbrev pub AreImplied : Live → List Assigned → List Assigned → Type 0
 AreImplied live entries [] = Unit {0}
 AreImplied live entries (e ∷ more) = IsImplied live entries e × AreImplied live (entries ++ e ∷ []) more
 
--- the new trail is the old one and entries that live clauses imply
+-- a trail, before and after: the new one is the old one and entries that live clauses imply
 pub record Grows (live : Live) (old new : TrailValue) : Type 0 where
   pub vars : new.vars ≡ old.vars
   pub more : List Assigned
@@ -50,16 +50,16 @@ IsFixpoint live entries = NoneFalseOrUnit live (holds entries)
 abbrev pub IsConflict : Live → List Assigned → ℕ → Type 0
 IsConflict live entries n = (C : Clause) × live n C × IsFalse (holds entries) C
 
--- the same literals, perhaps in another order
+-- two clauses have the same literals, perhaps in another order, and the same length
 pub record IsReordered (C D : Clause) : Type 0 where
   pub len : length D ≡ length C
   pub literals : (l : Literal) → Contains C l ↔ Contains D l
 
--- the same numbers except n
+-- the list `new` has the numbers of `old` except n
 abbrev pub AreWithout : List ℕ → ℕ → List ℕ → Type 0
 AreWithout old n new = (k : ℕ) → Contains new k ↔ (Contains old k × (k ≢ n))
 
--- the same clauses at the same places, each perhaps in another order
+-- an arena, before and after: it has the same clauses at the same offsets, each perhaps with its literals in another order
 pub record SameUpToOrder (old new : Clauses) : Type 0 where
   pub there : (n p : ℕ) (C : Clause) → get old n ≡ Some (p, C) → (D : Clause) × (get new n ≡ Some (p, D)) × IsReordered C D
   pub none : (n : ℕ) → get old n ≡ None → get new n ≡ None
@@ -68,11 +68,11 @@ pub record SameUpToOrder (old new : Clauses) : Type 0 where
 abbrev pub bare : Assigned → Assigned
 bare e = record e { reason = None }
 
--- the same literals at the same levels, perhaps for other reasons
+-- two trails have the same literals at the same levels, perhaps for other reasons
 abbrev pub SameUpToReasons : List Assigned → List Assigned → Type 0
 SameUpToReasons old new = map bare new ≡ map bare old
 
--- the reason of a literal's entry is changed to the clause of a number, and nothing else
+-- a trail, before and after: the reason of the entry of literal l is changed to the clause of this number, and nothing else
 pub record IsExplained (old new : List Assigned) (l : Literal) (number : ℕ) : Type 0 where
   pub front : List Assigned
   pub entry : Assigned

@@ -8,7 +8,7 @@ use Rattle.watches.specs.declared.status.Status.TheVariants as status
 use Rattle.watches.specs.Trails.{holds}
 use Rattle.watches.specs.Law.{NeitherFalseNorUnit}
 
--- the status of a clause under these entries
+-- the status of a clause under these entries is right
 abbrev pub HasStatus : List Assigned → Clause → Status → Type 0
 HasStatus entries C status.False = IsFalse (holds entries) C
 HasStatus entries C (status.Unit l) = IsUnit (holds entries) C l

@@ -7,7 +7,8 @@ use Rattle.watches.specs.declared.trail.Assigned.{Assigned}
 use Rattle.watches.specs.declared.truth.Truth.{Truth}
 use Rattle.watches.specs.declared.truth.Truth.TheVariants.{Free, True, False}
 
--- the value of a trail: the literals that are true, of the variables from 1 to vars, in the order in which they became true
+-- the value of a trail: its number of variables, which are those from 1 to vars; and the literals that are true, in the order in which they
+-- became true
 pub record TrailValue : Type 0 where
   pub vars : ℕ
   pub entries : List Assigned
@@ -16,7 +17,7 @@ pub record TrailValue : Type 0 where
 abbrev pub variables : List Assigned → List ℕ
 variables entries = map (λ e. var_of e.literal) entries
 
--- literals of the trail's variables, no two of one variable, at levels that never fall
+-- a trail's invariant: literals of its variables, no two of one variable, at levels that never fall
 pub record IsTrailValue (t : TrailValue) : Type 0 where
   pub within : All (λ e. IsWithin t.vars e.literal) t.entries
   pub apart : IsDistinct nat_eq (variables t.entries)
@@ -35,7 +36,7 @@ abbrev pub present : List Assigned → ℕ
 present [] = 0
 present (e ∷ entries) = max e.level (present entries)
 
--- the truth value of a literal: true if it is on the trail, false if its negation is, free if neither is
+-- a truth value is right for a literal: true if it is on the trail, false if its negation is, free if neither is
 abbrev pub IsTruth : List Assigned → Literal → Truth → Type 0
 IsTruth entries l True = (holds entries l ≡ true) × (holds entries (negation l) ≡ false)
 IsTruth entries l False = (holds entries l ≡ false) × (holds entries (negation l) ≡ true)

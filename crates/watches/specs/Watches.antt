@@ -3,8 +3,8 @@ use Rattle.std.specs.Prelude.{ℕ, Bool, true, false, List, [], ◌∷◌}
 use Rattle.clause_arena.specs.declared.reference.Ref.{Ref}
 use Rattle.watches.specs.declared.watched.watch.Watch.{Watch}
 
--- the watches; the attached clauses, which own two each; how many of the first places are heads of lists; how many entries of the trail
--- were propagated; whether the lists still have watches of a detached clause
+-- the value of `Watched`: the watches; the attached clauses, which own two each; the number of heads of lists, which are the first places;
+-- the number of the trail's entries that were propagated; and whether the lists still have watches of a detached clause
 pub record Watches : Type 0 where
   pub places : List Watch
   pub clauses : List Ref
@@ -12,7 +12,7 @@ pub record Watches : Type 0 where
   pub head : ℕ
   pub stale : Bool
 
--- the clauses that are not marked as detached
+-- the clauses whose entry of the second list is true: they are not detached
 abbrev pub attached_of : List Ref → List Bool → List Ref
 attached_of [] live = []
 attached_of (at ∷ clauses) [] = []

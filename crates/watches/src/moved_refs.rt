@@ -1,12 +1,12 @@
-//! References to clauses, updated after `Arena::compact`.
+//! References to clauses, updated after `Arena::compact` moved the clauses.
 
 ghost use Rattle.std.specs.Prelude.{◌≡◌, IfSome, IfNone};
 ghost use Rattle.watches.specs.inner.MovedRefs.{AreRising, IsUnmoved, IsMovedTo, Follows, AreFollowed};
 
 use clause_arena::Ref;
 
-/// The new reference to the clause of a number, if it moved. Binary search: the moves are in the order of numbers. Most clauses have
-/// lower numbers than the first move, which is tested first.
+/// The new reference to the clause of this number; None if no move is of it. The search is binary: the moves are in the order of clause
+/// numbers. Most clauses have lower numbers than the first move, which is tested first.
 fn find_move(moves: &[(Ref, Ref)], number: u64) -> Option<Ref>
     ensures moved { IfSome result (IsMovedTo moves.now number) }
     ensures unmoved { IfNone result (AreRising moves.now → IsUnmoved moves.now number) }
@@ -36,7 +36,7 @@ fn find_move(moves: &[(Ref, Ref)], number: u64) -> Option<Ref>
     None
 }
 
-/// The reference to a clause after the moves. A move that would change its number is ignored.
+/// The reference to a clause after the moves; `at` itself if no move is of its number. A move that would change the number is ignored.
 fn ref_after(moves: &[(Ref, Ref)], at: Ref) -> Ref
     ensures { Follows moves.now at result }
 {
@@ -46,7 +46,7 @@ fn ref_after(moves: &[(Ref, Ref)], at: Ref) -> Ref
     }
 }
 
-/// Updates each reference.
+/// Updates each reference to a clause that moved.
 pub fn update_refs(clauses: &mut [Ref], moves: &[(Ref, Ref)])
     ensures { AreFollowed moves.now clauses.old clauses.new }
 {

@@ -32,7 +32,7 @@ pub trait Propagator {
         ensures attached { attached self.new ≡ [] }
         ensures ready { OnOk result ((m : Clauses) (t : TrailValue) → t.entries ≡ [] → t.vars ≤ vars → is_ready self.new m t) };
 
-    /// Attaches a clause. If memory is refused, the same clauses are attached as before.
+    /// Attaches the clause to which `at` refers. If memory is refused, the same clauses are attached as before.
     fn attach(&mut self, arena: &mut Arena, trail: &Trail, at: Ref) -> Result<(), AllocError>
         requires live { IsLive arena.old at }
         requires apart { Contains (attached self.old) at.number → ⊥ }
@@ -43,7 +43,7 @@ pub trait Propagator {
         ensures ok { OnOk result (attached self.new ≡ attached self.old ++ at.number ∷ []) }
         ensures err { OnErr result (attached self.new ≡ attached self.old) };
 
-    /// Detaches a clause. It takes no memory.
+    /// Detaches the clause to which `at` refers. It takes no memory.
     fn detach(&mut self, arena: &Arena, at: Ref)
         requires live { IsLive arena.now at }
         requires there { Contains (attached self.old) at.number }
@@ -68,7 +68,7 @@ pub trait Propagator {
         ensures kept { All (λ e. e.level ≤ level) trail.new.entries };
 
     /// Pushes implied literals on the trail until a clause is false (a conflict) or no clause is unit. Returns the number of the false
-    /// clause. It takes no memory.
+    /// clause; None if there is none. It takes no memory.
     fn propagate(&mut self, arena: &mut Arena, trail: &mut Trail) -> Option<u64>
         requires { is_ready self.old arena.old trail.old }
         ensures ready { is_ready self.new arena.new trail.new }
@@ -78,18 +78,18 @@ pub trait Propagator {
         ensures conflict { IfSome result (IsConflict (live_among (attached self.old) (live_of arena.new)) trail.new.entries) }
         ensures quiet { IfNone result (IsFixpoint (live_among (attached self.old) (live_of arena.new)) trail.new.entries) };
 
-    /// The invariant is kept if literals are pushed on the trail.
+    /// A law: the invariant is kept if literals are pushed on the trail.
     ghost pushed: { (p : Self) (m : Clauses) (t u : TrailValue) (more : List Assigned) → is_ready p m t → u.vars ≡ t.vars → u.entries ≡ t.entries ++ more → is_ready p m u };
 
-    /// The invariant is kept if reasons of entries change.
+    /// A law: the invariant is kept if reasons of entries change.
     ghost explained: { (p : Self) (m : Clauses) (t u : TrailValue) → is_ready p m t → u.vars ≡ t.vars → SameUpToReasons t.entries u.entries → is_ready p m u };
 
-    /// The invariant is kept if clauses change that are not attached.
+    /// A law: the invariant is kept if clauses change that are not attached.
     ghost elsewhere: { (p : Self) (m k : Clauses) (t : TrailValue) → is_ready p m t → ((n : ℕ) → Contains (attached p) n → fin.get k n ≡ fin.get m n) → is_ready p k t };
 }
 
-/// Adds a clause to the arena and attaches it. If memory is refused, the clauses are as before, except that literals of a clause may be
-/// in another order.
+/// Adds a clause to the arena under `number`, and attaches it. If memory is refused, the clauses are as before, except that literals of a
+/// clause may be in another order.
 pub fn add_clause<P: Propagator>(
     propagator: &mut P,
     arena: &mut Arena,

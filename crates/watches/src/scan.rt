@@ -1,4 +1,4 @@
-//! The plain propagator, without watches: it tests every clause until nothing changes.
+//! The propagator `Scan`, without watches: it tests every clause until nothing changes.
 
 ghost use Rattle.std.specs.Prelude.{◌≡◌, ◌≢◌, ℕ, ◌+◌, ◌<◌, ◌≤◌, List, [], length, All, Contains, IfSome, IfNone};
 ghost use Rattle.clause_arena.specs.Clauses.{Clauses, live_of};
@@ -17,7 +17,8 @@ use clause_arena::{Arena, Ref};
 use std::alloc::{AllocError, Global};
 use std::marker::Model;
 
-/// Tests each clause once, pushes the units, and stops at a false clause. If it pushes nothing, no clause was unit.
+/// Tests each of these clauses once, pushes the literals of units, and stops at a false clause,
+/// whose number it returns. If it returns None and has pushed nothing, no clause is false or unit.
 fn sweep(clauses: &[Ref], arena: &Arena, trail: &mut Trail) -> Option<u64>
     requires { All (IsLiveWithin arena.now trail.old.vars) clauses.now }
     ensures trail { Grows (live_among (numbers clauses.now) (live_of arena.now)) trail.old trail.new }
@@ -38,7 +39,7 @@ fn sweep(clauses: &[Ref], arena: &Arena, trail: &mut Trail) -> Option<u64>
     None
 }
 
-/// Sweeps until a clause is false, or a sweep pushes nothing.
+/// Sweeps until a clause is false, whose number it returns, or a sweep pushes nothing: then it returns None.
 fn sweep_all(clauses: &[Ref], arena: &Arena, trail: &mut Trail) -> Option<u64>
     requires { All (IsLiveWithin arena.now trail.old.vars) clauses.now }
     ensures trail { Grows (live_among (numbers clauses.now) (live_of arena.now)) trail.old trail.new }
@@ -58,7 +59,7 @@ fn sweep_all(clauses: &[Ref], arena: &Arena, trail: &mut Trail) -> Option<u64>
     }
 }
 
-/// The attached clauses, which `propagate` tests one after the other.
+/// A propagator that holds references to the attached clauses, and tests one after the other.
 #[derive(Drop)]
 pub struct Scan {
     clauses: Vec<Ref>,
@@ -71,7 +72,7 @@ impl Model for Scan {
 }
 
 impl Scan {
-    /// No clause is attached.
+    /// A propagator to which no clause is attached.
     pub fn new(alloc: Global) -> Scan
         ensures { result ≡ [] }
     {
@@ -92,33 +93,40 @@ impl Propagator for Scan {
 
     ghost elsewhere = { λ p m k t h e. here_elsewhere m k t.vars p h e };
 
+    /// Does nothing: a list of clauses needs no room for variables.
     fn reserve(&mut self, _vars: u32) -> Result<(), AllocError> {
         Ok(())
     }
 
+    /// Appends the clause to the list.
     fn attach(&mut self, _arena: &mut Arena, _trail: &Trail, at: Ref) -> Result<(), AllocError> {
         self.clauses.push(at)?;
         Ok(())
     }
 
+    /// Removes the clause from the list.
     fn detach(&mut self, _arena: &Arena, at: Ref) {
         let number = at.number();
         self.clauses.retain(|a| a.number() != number);
     }
 
+    /// Drops the list.
     fn release(&mut self) {
         let alloc = *self.clauses.allocator();
         *self = Scan::new(alloc);
     }
 
+    /// Updates the references in the list after a compaction.
     fn moved(&mut self, moves: &[(Ref, Ref)]) {
         update_refs(&mut self.clauses, moves);
     }
 
+    /// Backtracks the trail to a level; there are no watches to mend.
     fn undo(&mut self, trail: &mut Trail, level: u32) {
         trail.cut(level);
     }
 
+    /// Tests every clause again and again, until one is false or nothing changes.
     fn propagate(&mut self, arena: &mut Arena, trail: &mut Trail) -> Option<u64> {
         sweep_all(&self.clauses, arena, trail)
     }

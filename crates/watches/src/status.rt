@@ -8,15 +8,18 @@ use crate::trail::Trail;
 use crate::truth::Truth;
 use dimacs::Lit;
 
-/// The status of a clause under a trail: false, unit with a literal, or neither.
+/// The status of a clause under a trail.
 #[derive(Clone, Copy, Debug, PartialEq, Eq)]
 pub enum Status {
+    /// Each literal is false.
     False,
+    /// This literal is unassigned, and each other literal is false.
     Unit(Lit),
+    /// Neither: a literal is true, or two are unassigned.
     Other,
 }
 
-/// The status of a clause. A clause with a true literal is `Other`.
+/// Tests a clause under a trail. A unit clause may repeat its unassigned literal.
 pub fn test_clause(literals: &[Lit], trail: &Trail) -> Status
     requires { All (IsWithin trail.now.vars) literals.now }
     ensures { HasStatus trail.now.entries literals.now result }

@@ -11,18 +11,20 @@ use dimacs::Lit;
 use std::alloc::{AllocError, Global};
 use std::marker::Model;
 
-/// An entry of the trail: a literal, its decision level, and its reason, which is the number of the clause that implied it; None if it
-/// was decided.
+/// An entry of the trail: a literal that is true, its decision level, and its reason.
 #[derive(Clone, Copy, Debug, PartialEq, Eq)]
 pub struct Assigned {
+    /// The literal that is true.
     pub literal: Lit,
+    /// The decision level at which it became true.
     pub level: u32,
+    /// The number of the clause that implied the literal; None if the literal was decided.
     pub reason: Option<u64>,
 }
 
 /// The literals that are true, in the order in which they became true, no two of one variable. Only `new` takes memory.
 ///
-/// `values` has the truth of each literal, by `Lit::index`; `places` has the place of each variable's entry, by variable.
+/// `values` has the truth of each literal, by `Lit::index`; `places` has the index of each variable's entry, by variable.
 #[derive(Drop)]
 pub struct Trail {
     vars: u32,
@@ -93,7 +95,7 @@ impl Trail {
         self.values[row]
     }
 
-    /// The place in `entries` of a literal that is true.
+    /// The index in `entries` of a literal that is true.
     #[inline(always)]
     pub fn place_of(&self, literal: Lit) -> usize
         requires { holds self.now.entries literal ≡ true }
@@ -114,7 +116,7 @@ impl Trail {
         self.entries[self.place_of(literal)]
     }
 
-    /// Pushes an entry of an unassigned literal, at no lower level than those before it. It takes no memory.
+    /// Pushes an entry of an unassigned literal, at a level that is no lower than those before it. It takes no memory.
     #[inline(always)]
     pub fn push(&mut self, entry: Assigned)
         requires within { IsWithin self.old.vars entry.literal }
@@ -146,7 +148,7 @@ impl Trail {
         }
     }
 
-    /// Changes the reason of a literal that is true to the clause of a number. It takes no memory.
+    /// Changes the reason of a literal that is true to the clause of this number. It takes no memory.
     pub fn explain(&mut self, literal: Lit, number: u64)
         requires { holds self.old.entries literal ≡ true }
         ensures vars { self.new.vars ≡ self.old.vars }
@@ -172,7 +174,7 @@ impl Trail {
         }
     }
 
-    /// Removes the last entry.
+    /// Removes the last entry, whose literal becomes unassigned.
     fn pop(&mut self)
         requires { 0 < length self.old.entries }
         ensures vars { self.new.vars ≡ self.old.vars }

@@ -1,11 +1,12 @@
 //! Propagation by two watched literals a clause (Moskewicz, Madigan, Zhao, Zhang and Malik 2001).
 //!
-//! Watch lists are linked lists through one vector of watches. Each attached clause owns two watches side by side in it; a watch has its
-//! literal and the place of the next watch of its list. The heads of the lists are the first places of the vector: a watch list for each
-//! literal, the pending list of watches that are still to be visited, and the list of retired watches, which need no visit any more.
+//! Watch lists are linked lists through one vector of watches; a place is an index of this vector. Each attached clause owns two watches
+//! side by side in it; a watch has its literal and the place of the next watch of its list. The heads of the lists are the first places: a
+//! watch list for each literal, the pending list of watches that are still to be visited, and the list of retired watches, which need no
+//! visit any more.
 //!
 //! Why linked lists: a watch moves to another list by three writes, so that `propagate` takes no memory. And the clause's other watched
-//! literal is in the neighbouring place, where other solvers keep a blocking literal: if it is true, the clause is not read.
+//! literal is at the neighbouring place, where other solvers keep a blocking literal: if it is true, the clause is not read.
 
 ghost use Rattle.std.specs.Prelude.{◌≡◌, ◌+◌, ◌*◌, ◌<◌, []};
 ghost use Rattle.watches.specs.ClauseNumbers.{numbers};
@@ -40,15 +41,18 @@ use std::marker::Model;
 /// The greatest number of variables, so that the places of heads fit in 32 bits.
 const MOST_VARS: u32 = 2_147_483_647;
 
-/// The greatest length of the vector of watches at which two more still have places of 32 bits.
+/// The greatest length of the vector of watches at which the places of two more still fit in 32 bits.
 const MOST_PLACES: usize = 4_294_967_294;
 
-/// Watches two literals of each clause, and visits the clause only when one of them becomes false. The search for another literal to
-/// watch begins at the clause's saved position, where the last search ended.
+/// A propagator that watches two literals of each clause, and visits the clause only if one of them becomes false. The search for another
+/// literal to watch begins at the clause's saved position, where the last such search ended.
 ///
-/// Detaching is lazy: it marks the clause as not live, and the next `propagate` removes all marked clauses and rebuilds the watch lists.
+/// Detaching is lazy: it marks the clause as not live, and the next `propagate` removes all clauses that are not live and rebuilds the
+/// watch lists.
 pub struct Watched {
+    /// The watch lists, with the clauses that own the watches.
     lists: WatchLists,
+    /// Whether each clause of the lists is attached; false if it was detached since the last rebuild.
     live: Vec<bool>,
 }
 
@@ -70,7 +74,7 @@ impl Model for Watched {
 }
 
 impl Watched {
-    /// No clause is attached.
+    /// A propagator to which no clause is attached.
     pub fn new(alloc: Global) -> Watched
         ensures { numbers result.clauses ≡ [] }
     {
@@ -99,6 +103,8 @@ impl Propagator for Watched {
 
     ghost elsewhere = { λ w m k t h e. ready_elsewhere w m k t h e };
 
+    /// Makes the heads of the empty watch lists: one for each literal, and those of pending and of
+    /// retired watches.
     fn reserve(&mut self, vars: u32) -> Result<(), AllocError> {
         if vars > MOST_VARS {
             return Err(AllocError);
@@ -117,6 +123,8 @@ impl Propagator for Watched {
         Ok(())
     }
 
+    /// Chooses the two best literals to watch, and puts the clause's two watches on the pending
+    /// list.
     fn attach(&mut self, arena: &mut Arena, trail: &Trail, at: Ref) -> Result<(), AllocError> {
         if self.lists.places.len() > MOST_PLACES {
             return Err(AllocError);
@@ -134,6 +142,8 @@ impl Propagator for Watched {
         Ok(())
     }
 
+    /// Marks the clause as not live; the next `propagate` removes it with all others that are
+    /// marked.
     fn detach(&mut self, _arena: &Arena, at: Ref) {
         if let Some(i) = find_clause(&self.lists.clauses, &self.live, at.number()) {
             self.live[i] = false;
@@ -141,15 +151,19 @@ impl Propagator for Watched {
         }
     }
 
+    /// Drops the lists and all watches.
     fn release(&mut self) {
         let alloc = *self.lists.places.allocator();
         *self = Watched::new(alloc);
     }
 
+    /// Updates the references in the lists after a compaction.
     fn moved(&mut self, moves: &[(Ref, Ref)]) {
         update_refs(&mut self.lists.clauses, moves);
     }
 
+    /// Backtracks the trail to a level. Watches stay as they are; if more was propagated than is
+    /// left of the trail, propagation goes on at the trail's end.
     fn undo(&mut self, trail: &mut Trail, level: u32) {
         trail.cut(level);
         let len = trail.len();
@@ -158,6 +172,7 @@ impl Propagator for Watched {
         }
     }
 
+    /// Rebuilds the lists if clauses were detached, and propagates from where the last call ended.
     fn propagate(&mut self, arena: &mut Arena, trail: &mut Trail) -> Option<u64> {
         self.lists.rebuild(&mut self.live, arena, trail);
         self.lists.propagate(arena, trail)

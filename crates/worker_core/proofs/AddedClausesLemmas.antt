@@ -24,7 +24,7 @@ BeginsGrown w g n new =
 
 pub begins_grown : (w : WorkerState) (x : Cnf) (n : ℕ) (g : Grown) (new : WorkerState) → IsGrown w.formula x w.verdict g → BeginsGrown w g n new → ExtendsWorker w x n Taken new
 begins_grown w x n g new is h =
-    ExtendsWorker.taken is.limits g.verdict is.stays refl
+    ExtendsWorker.taken (is.limits, is.fits) g.verdict is.stays refl
     (record {
       base = h.0;
       with_definitions = subst (λ (F : Cnf). IsBaseWith F w.wanted h.0) is.formula h.1;

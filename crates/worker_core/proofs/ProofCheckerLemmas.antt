@@ -2,6 +2,7 @@
 use Rattle.std.proofs.Common.{◌≡◌, ℕ, ◌+◌, ◌≤◌, List, ◌++◌, length, take, drop, Option, Some, None, sym, ap, ◌∙◌, subst, arith}
 use Rattle.std.proofs.lemmas.List.{length-append, take-append-le, take_all}
 use Rattle.std.proofs.Math.Seq.{take-add}
+use Rattle.std.specs.Option.{IfSome}
 use Rattle.dimacs.specs.logic.Cnf.{Cnf}
 use Rattle.lrat_check.specs.Stream.{HasTaken}
 use Rattle.worker_core.specs.inner.Invariant.{ChecksPrefix, HasTakenPrefix}
@@ -21,6 +22,11 @@ all_behind F f bytes all taken = record {
   within = omega (arith, all);
   front = subst (HasTaken F f.stream) (sym (take_all f.taken bytes (omega (arith, all)))) taken;
 }
+
+-- the same of a checker that may be missing
+pub all_behind_if : (F : Cnf) (o : Option ProofChecker) (bytes : List ℕ) → IfSome o (λ (f : ProofChecker). (f.taken ≡ length bytes) × HasTaken F f.stream bytes) → ChecksPrefix F o bytes
+all_behind_if F None bytes h = tt
+all_behind_if F (Some f) bytes h = all_behind F f bytes h.0 h.1
 
 -- a prefix that is not shorter is all the bytes
 pub all_taken : (F : Cnf) (f : ProofChecker) (bytes : List ℕ) → length bytes ≤ f.taken → HasTakenPrefix F f bytes → HasTaken F f.stream bytes

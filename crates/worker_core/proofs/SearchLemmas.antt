@@ -8,8 +8,8 @@ use Rattle.cube_split.specs.Pairs.{IsBaseWith}
 use Rattle.cube_solve.specs.declared.outcome.Outcome.{Outcome}
 use Rattle.cube_solve.specs.declared.outcome.Outcome.TheVariants as outcome
 use Rattle.icnf.specs.Leaves.{Cube}
-use Rattle.lrat_text.specs.Grammar.{LineSpells}
-use Rattle.lrat_text.specs.Log.{Closes}
+use Rattle.lrat_text.specs.Grammar.{LineSpellsWithin}
+use Rattle.lrat_text.specs.Log.{Closes, log_top}
 use Rattle.lrat_text.specs.declared.step.Step.{Step}
 use Rattle.lrat_check.specs.Judgement.{value_byte}
 use Rattle.lrat_check.specs.declared.verdict.Reaction.TheVariants as reaction
@@ -21,8 +21,8 @@ use Rattle.worker_core.specs.inner.Invariant.{IsWork}
 use Rattle.worker_core.specs.Worker.{WorkerState, WorkerWorks, MayEnd, kept}
 
 -- a text that spells a step has at least one byte
-some_byte : (text : List ℕ) (step : Step) (steps : List Step) → LineSpells text (step ∷ steps) → 0 < length text
-some_byte text step steps spells =
+some_byte : (most : ℕ) (text : List ℕ) (step : Step) (steps : List Step) → LineSpellsWithin most text (step ∷ steps) → 0 < length text
+some_byte most text step steps spells =
     let line : List ℕ = spells.0 in
     let rest : List ℕ = spells.1 in
     let is : length text ≡ length (line ++ 10 ∷ rest) = ap length spells.2 in
@@ -35,9 +35,9 @@ closes_some B q text closes = go closes.0 closes.1 closes.3.0 closes.3.1 closes.
     none [] last e = cc
     none (s ∷ front) last e = cc
 
-    go : (steps : List Step) → LineSpells text steps → (front : List Step) (last : Step) → steps ≡ front ++ last ∷ [] → 0 < length text
+    go : (steps : List Step) → LineSpellsWithin (log_top B) text steps → (front : List Step) (last : Step) → steps ≡ front ++ last ∷ [] → 0 < length text
     go [] spells front last e = absurd (none front last e)
-    go (step ∷ steps) spells front last e = some_byte text step steps spells
+    go (step ∷ steps) spells front last e = some_byte (log_top B) text step steps spells
 
 -- the base has at least as many variables as the formula
 pub as_many_vars : (F : Cnf) (wanted : ℕ) (B : Cnf) → IsBaseWith F wanted B → F.vars ≤ B.vars

@@ -161,7 +161,7 @@ pub record MeetsLimit (B : Cnf) (cube : Cube) (limit : ℕ) (text : List ℕ) : 
 -- trimmed, so its lemmas need not be fresh
 abbrev pub MayEnd : Cnf → Cube → ℕ → Outcome → Type 0
 MayEnd B cube limit (outcome.Model values) = IsModel B cube values
-MayEnd B cube limit (outcome.Refuted text) = Closes B cube text × HasAtMostAdditions (allowed limit + 1) text
+MayEnd B cube limit (outcome.Refuted text) = Closes B cube text × HasAtMostAdditions B (allowed limit + 1) text
 MayEnd B cube limit (outcome.Limit text) = MeetsLimit B cube limit text
 
 -- the work that keeps an outcome: the values of the formula's variables, or the fragment if it is shorter than 2^32 bytes; else that the

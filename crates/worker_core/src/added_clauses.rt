@@ -17,7 +17,7 @@ impl Worker {
     /// Adds clauses to the worker's formula. The worker is then as newly made from the longer formula, with as many definitions, under this
     /// incarnation, except that it holds what is kept of its verdict: what is right for the longer formula.
     ///
-    /// `Refused(4)` if the longer formula would exceed a limit. After that and after `NoMemory` the worker is unchanged.
+    /// `Refused(4)` if the longer formula would exceed a written limit. After that and after `NoMemory` the worker is unchanged.
     pub fn extend(&mut self, extension: &Extension, incarnation: u64) -> Reaction
         ensures { ExtendsWorker self.old extension.now incarnation result self.new }
     {
@@ -51,7 +51,8 @@ impl Worker {
         Ok(())
     }
 
-    /// Holds this verdict, which is right for the worker's formula.
+    /// Sets the verdict of a worker that was just made anew: what is kept of the old one, which is
+    /// right for the longer formula.
     fn hold(&mut self, verdict: Verdict)
         requires { Right self.old.formula verdict }
         ensures { self.new ≡ record self.old { verdict = verdict } }

@@ -15,7 +15,7 @@ use crate::proof_checker::{ProofChecker, caught_up};
 use dimacs::Formula;
 use frames::Answer;
 use lrat_check::{CheckFault, Judged, Verdict, judge_values};
-use lrat_text::reading_is_spelling;
+use lrat_text::reading_within_is_spelling;
 use packed_text::PackedText;
 use std::alloc::{AllocError, Global};
 
@@ -32,7 +32,8 @@ pub enum CandidateCheck {
     NoMemory(Candidate, Option<ProofChecker>),
 }
 
-/// Tells whether a Part with `count` bytes from `offset` on belongs to the candidate and follows the candidate's bytes so far.
+/// Tells whether a Part frame with `count` bytes from `offset` on belongs to the candidate (same
+/// session and answer) and follows the candidate's bytes so far.
 pub(crate) fn is_next_part(
     candidate: &Candidate,
     session: u64,
@@ -120,7 +121,7 @@ pub(crate) fn check_candidate(
     }
 }
 
-/// Checks the complete text of a refutation. If the text is accepted, it becomes the verdict without a copy.
+/// Checks the complete text of a refutation. An accepted text becomes the verdict without a copy.
 fn check_text(
     alloc: Global,
     formula: &Formula,
@@ -168,7 +169,8 @@ fn check_proof(
 {
     let checker = checker_at_end(alloc, formula, checker, text)?;
     // A law, which does nothing: the steps that were read are those that the text spells.
-    reading_is_spelling();
+    reading_within_is_spelling();
+    let _ = formula.vars(); // ensures that the formula is within the limits
     checker.stream.finish()
 }
 

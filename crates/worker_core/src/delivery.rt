@@ -52,8 +52,9 @@ impl Worker {
         }
     }
 
-    /// Takes a task if it is later than the last one taken; else it is ignored. `Refused(3)` if a variable of the cube is not one of the
-    /// base.
+    /// Takes the task of a Task frame if its job is later than the last one taken, so that a
+    /// delayed or repeated frame is ignored. `Refused(3)` if a variable of the cube is not one of
+    /// the base.
     fn deliver_task(&mut self, name: JobName, limit: u64, cube: &Cube) -> Reaction
         ensures { DeliversTask self.old name limit cube.now result self.new }
     {
@@ -71,7 +72,8 @@ impl Worker {
         Reaction::Taken
     }
 
-    /// Notes the offset of a Fetch for the worker's own attempt, if the kept evidence has a byte there; else the Fetch is ignored.
+    /// Takes a Fetch frame: notes the offset from which the next poll sends a Piece. Ignored if it
+    /// is not for the worker's own attempt, or if the kept evidence has no byte there.
     fn deliver_fetch(&mut self, attempt: &Attempt, offset: u32) -> Reaction
         ensures { DeliversFetch self.old attempt.now offset result self.new }
     {
@@ -146,8 +148,8 @@ impl Worker {
         }
     }
 
-    /// Appends the bytes of a Part to the candidate, and checks the candidate if it is then complete. Ignored if the bytes do not come
-    /// next.
+    /// Takes a Part frame: appends its bytes to the candidate, and checks the candidate if it is
+    /// then complete. Ignored if the bytes do not come next.
     fn deliver_part(&mut self, session: u64, part: Answer, offset: u32, bytes: &Chunk) -> Reaction
         ensures { DeliversPart self.old session part offset bytes.now result self.new }
     {
@@ -188,7 +190,7 @@ impl Worker {
     }
 }
 
-/// Tells whether the job is later than the last one; true if there is no last one.
+/// Tells whether a job is later than the last one taken; true if none was taken.
 fn is_later(last: Option<JobName>, name: JobName) -> bool
     ensures { IsTrue result ↔ IsLater last name }
 {

@@ -23,7 +23,7 @@ impl Worker {
         Ok(frame)
     }
 
-    /// Returns the frame of `poll`, and changes nothing.
+    /// Returns the frame that `poll` sends, and changes nothing.
     fn frame(&self) -> Result<Frame, AllocError>
         ensures ok { IfOk result (λ frame. frame ≡ worker_frame self.now) }
         ensures err { OnErr result (FrameNeedsMemory (worker_frame self.now)) }
@@ -105,7 +105,8 @@ fn piece_at(alloc: Global, bytes: &PackedText, offset: u32) -> Result<Chunk, All
     Ok(Chunk::from_vec(piece))
 }
 
-/// Returns an answer with the length in bytes of its evidence.
+/// Makes the finding that a Done frame announces: the answer, with the length in bytes of its
+/// evidence.
 fn finding(answer: Answer, length: u32) -> Finding
     requires { answer ≡ answers.Refuted → 1 ≤ length }
     ensures { result ≡ finding_of answer length }

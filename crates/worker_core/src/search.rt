@@ -45,7 +45,9 @@ impl Worker {
         Reaction::Finished
     }
 
-    /// Has the candidate's checker take the bytes received since its last call. Nothing that a contract names changes.
+    /// Has the candidate's checker take the bytes received since its last call, in time in which
+    /// the worker has no task. So a proof is mostly checked when its last byte comes. Nothing that
+    /// a contract names changes.
     fn catch_up(&mut self)
         ensures { self.new ≡ self.old }
     {
@@ -73,8 +75,8 @@ fn search(alloc: Global, base: &Base, cube: &[Lit], limit: u64) -> Result<Outcom
     }
 }
 
-/// Returns the work that keeps an outcome: an answer with its evidence, or that the limit was met; `vars` is the formula's number of
-/// variables.
+/// Returns what the worker keeps of an outcome: an answer with its evidence, or that the limit was
+/// met, also if the fragment is too long to be sent; `vars` is the formula's number of variables.
 fn work_of(alloc: Global, name: JobName, vars: u32, end: Outcome) -> Result<Work, AllocError>
     ensures { IfOk result (λ work. work ≡ kept name vars end) }
 {

@@ -33,7 +33,7 @@ pub enum Work {
 }
 
 impl Work {
-    /// Clears the noted offset of a Fetch, if there is one.
+    /// Clears the noted offset of a Fetch, if there is one, after its Piece was made.
     pub(crate) fn forget_note(&mut self)
         ensures { self.new ≡ without_note self.old }
     {

@@ -89,7 +89,7 @@ impl Worker {
     ) -> Result<Worker, AllocError>
         ensures { IfOk result (λ w. w ≡ new_worker formula number incarnation) }
     {
-        without_definitions();
+        without_definitions(); // a law: the base is the formula's own
         Worker::with_defs(alloc, formula, number, incarnation, 0)
     }
 
@@ -171,7 +171,8 @@ impl Worker {
         self.incarnation
     }
 
-    /// Returns the evidence of the answer that was found, which Pieces carry; `None` if no answer is kept.
+    /// Returns the evidence of the kept answer, which Piece frames carry; `None` if no answer is
+    /// kept.
     pub fn found(&self) -> Option<&PackedText>
         ensures { MatchOption result (found_bytes self.now.work ≡ None) (λ text. found_bytes self.now.work ≡ Some text.now) }
     {

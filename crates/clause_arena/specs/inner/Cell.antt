@@ -1,21 +1,23 @@
--- Cells: how the two fields of a cell give a slot or none.
+-- Cells: how the two fields of a cell give a slot or nothing.
 use Rattle.std.specs.Prelude.{◌≡◌, ℕ, ◌-◌, ◌^◌, Bool, true, false, Option, Some, None, cond, refl, nat_eq}
 use Rattle.std.proofs.Common.{sym}
 use Rattle.std.proofs.lemmas.Bool.{eqb-true}
 use Rattle.clause_arena.specs.declared.slot.Slot.{Slot}
 use Rattle.clause_arena.specs.declared.slot.Cell.TheInside.{Inside}
 
--- the place that marks a free cell
+-- the offset that stands for a free cell
 abbrev pub free_place : ℕ
 free_place = 2 ^ 32 - 1
 
+-- the slot in a cell; none if it is free
 abbrev pub slot_in : Inside → Option Slot
 slot_in c = cond (nat_eq c.place free_place) None (Some (record { place = c.place; len = c.len }))
 
--- a free cell has no length
+-- the invariant of a cell: a free one has the length 0
 abbrev pub IsCell : Inside → Type 0
 IsCell c = c.place ≡ free_place → c.len ≡ 0
 
+-- the fields of the cell with this slot, or of a free cell
 abbrev pub cell_of : Option Slot → Inside
 cell_of None = record { place = free_place; len = 0 }
 cell_of (Some s) = record { place = s.place; len = s.len }

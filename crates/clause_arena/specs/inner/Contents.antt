@@ -8,7 +8,7 @@ use Rattle.clause_arena.specs.declared.slot.Slot.{Slot}
 use Rattle.clause_arena.specs.Slots.{Slots}
 use Rattle.clause_arena.specs.Contents.{clause_at}
 
--- a slot lies within the literals
+-- a slot's property: it lies within the literals
 abbrev pub IsPlaced : List Literal → Slot → Type 0
 IsPlaced literals s = s.place + s.len ≤ length literals
 
@@ -16,7 +16,7 @@ IsPlaced literals s = s.place + s.len ≤ length literals
 abbrev pub slot_of : Ref → Slot
 slot_of at = record { place = at.place; len = at.len }
 
--- each slot lies within the literals, the slots of two numbers do not overlap, and no clause repeats a literal
+-- the invariant of an arena: each slot lies within the literals, the slots of two numbers do not overlap, and no clause repeats a literal
 pub record IsArena (literals : List Literal) (index : Slots) : Type 0 where
   pub placed : (n : ℕ) (s : Slot) → get index n ≡ Some s → IsPlaced literals s
   pub distinct : (n : ℕ) (s : Slot) → get index n ≡ Some s → IsDistinct same (clause_at literals s)

@@ -1,4 +1,4 @@
-//! The words of `check`.
+//! The command `check`: the table of its arguments, and the request that they make.
 
 ghost use Rattle.std.specs.Prelude.{◌≡◌, IfSome, IfNone, codes};
 ghost use Rattle.command_line.specs.CommandLine.{IsInRange, Makes};
@@ -6,16 +6,17 @@ ghost use Rattle.command_line.specs.declared.request.Request.{Request};
 ghost use Rattle.command_line.specs.Program.{check_app};
 ghost use Rattle.option_table.specs.Rules.{app_of_command};
 
-use crate::commands::words::{INPUT, file_of, is_given};
+use crate::commands::words::{INPUT, LARGE, file_of, is_given};
 use crate::request::Request;
 use option_table::{CommandRules, Found, Word};
 
-/// The words.
+/// The arguments that `check` takes.
 static RULES: CommandRules<'static> = CommandRules {
     name: "check",
     about: "Checks an LRAT proof of a DIMACS formula, or the LIDRUP proof of a session",
     after_help: "Status: 0 the proof is accepted, 1 it is not, or an error",
     words: &[
+        LARGE,
         Word::LongFlag {
             name: "session",
             help: "INPUT is what was sent in a session, clauses and queries, and PROOF is a LIDRUP file",
@@ -29,14 +30,16 @@ static RULES: CommandRules<'static> = CommandRules {
     ],
 };
 
-/// The same, handed out: what has all of them has not their tables before it.
+/// The table of the arguments of `check`. It is a function and no constant, so that proofs of its
+/// callers do not unfold the table.
 pub(crate) fn rules() -> CommandRules<'static>
     ensures { app_of_command result ≡ check_app }
 {
     RULES
 }
 
-/// What its words ask for.
+/// Makes the request of the parsed arguments of `check`; None if a required one is missing, a
+/// number is out of range, or they do not go together.
 pub(crate) fn asked<'a>(given: &Found<'a>) -> Option<Request<'a>>
     ensures found { IfSome result (Makes (codes "check") given.now.rows) }
     ensures none { IfNone result ((request : Request) → Makes (codes "check") given.now.rows request → ⊥) }

@@ -1,4 +1,4 @@
-//! The words of `cover`.
+//! The command `cover`: the table of its arguments, and the request that they make.
 
 ghost use Rattle.std.specs.Prelude.{◌≡◌, IfOk, IfSome, IfNone, codes};
 ghost use Rattle.command_line.specs.CommandLine.{IsInRange, Makes, NamesFiles};
@@ -13,7 +13,7 @@ use crate::request::Request;
 use option_table::{CommandRules, Found, Word};
 use std::alloc::{AllocError, Global};
 
-/// The words.
+/// The arguments that `cover` takes.
 static RULES: CommandRules<'static> = CommandRules {
     name: "cover",
     about: "Tells whether receipts over a DIMACS formula close all of its leaves",
@@ -29,14 +29,15 @@ static RULES: CommandRules<'static> = CommandRules {
     ],
 };
 
-/// The same, handed out: what has all of them has not their tables before it.
+/// The table of the arguments of `cover`. It is a function and no constant, so that proofs of its
+/// callers do not unfold the table.
 pub(crate) fn rules() -> CommandRules<'static>
     ensures { app_of_command result ≡ cover_app }
 {
     RULES
 }
 
-/// What the words ask for that name these files.
+/// Makes the request of `cover` for these receipts; None if a required file is missing.
 fn covering<'a>(given: &Found<'a>, receipts: Vec<&'a str>) -> Option<Request<'a>>
     requires { NamesFiles given.now.rows (codes "NAME") receipts.items }
     ensures found { IfSome result (Makes (codes "cover") given.now.rows) }
@@ -53,7 +54,8 @@ fn covering<'a>(given: &Found<'a>, receipts: Vec<&'a str>) -> Option<Request<'a>
     })
 }
 
-/// What its words ask for.
+/// Makes the request of the parsed arguments of `cover`; None if a required one is missing, a
+/// number is out of range, or they do not go together. It is an error if memory is refused.
 pub(crate) fn asked<'a>(alloc: Global, given: &Found<'a>) -> Result<Option<Request<'a>>, AllocError>
     ensures found { IfOk result (λ found. IfSome found (Makes (codes "cover") given.now.rows)) }
     ensures none { IfOk result (λ found. IfNone found ((request : Request) → Makes (codes "cover") given.now.rows request → ⊥)) }

@@ -1,4 +1,4 @@
-//! The words of `cubes`.
+//! The command `cubes`: the table of its arguments, and the request that they make.
 
 ghost use Rattle.std.specs.Prelude.{◌≡◌, ◌-◌, ◌^◌, ℕ, Option, Some, IfSome, IfNone, codes};
 ghost use Rattle.command_line.specs.CommandLine.{IsInRange, IsVariable, Makes, NamesAnyNumber, NamesFile, NamesNothing};
@@ -7,22 +7,23 @@ ghost use Rattle.command_line.specs.Program.{cubes_app};
 ghost use Rattle.option_table.specs.Rules.{app_of_command};
 
 use crate::commands::leaf_words::LAST_LEAF;
-use crate::commands::words::{INPUT, file_of, is_named, number_of, number_or};
+use crate::commands::words::{INPUT, LARGE, file_of, is_named, number_of, number_or};
 use crate::request::Request;
 use option_table::{CommandRules, Found, Need, Word};
 
 /// The greatest number of a variable.
 const LAST_VARIABLE: u64 = 2_147_483_647;
 
-/// The most leaves of a tree.
+/// The greatest number of leaves of a tree.
 const LAST_LEAVES: u64 = 65_536;
 
-/// The words.
+/// The arguments that `cubes` takes.
 static RULES: CommandRules<'static> = CommandRules {
     name: "cubes",
     about: "Splits a DIMACS formula into cubes, as iCNF, cuts a leaf in two, or completes cubes",
     after_help: "Status: 0 the cubes are printed, 1 an error",
     words: &[
+        LARGE,
         Word::Number {
             name: "depth",
             low: 0,
@@ -65,14 +66,16 @@ static RULES: CommandRules<'static> = CommandRules {
     ],
 };
 
-/// The same, handed out: what has all of them has not their tables before it.
+/// The table of the arguments of `cubes`. It is a function and no constant, so that proofs of its
+/// callers do not unfold the table.
 pub(crate) fn rules() -> CommandRules<'static>
     ensures { app_of_command result ≡ cubes_app }
 {
     RULES
 }
 
-/// The variable that the words name, or that they name none.
+/// The variable that `--on` gives; the inner None if `--on` is not given, the outer one if its
+/// value is no variable.
 fn on_of(given: &Found) -> Option<Option<u32>>
     ensures found { IfSome result (NamesAnyNumber given.now.rows (codes "on") 1 (2 ^ 31 - 1)) }
     ensures none { IfNone result ((on : Option ℕ) → NamesAnyNumber given.now.rows (codes "on") 1 (2 ^ 31 - 1) on → ⊥) }
@@ -85,7 +88,8 @@ fn on_of(given: &Found) -> Option<Option<u32>>
     Some(Some(variable as u32))
 }
 
-/// What the words ask for where they name these cubes and no look ahead.
+/// Makes the request of `cubes --split` without `--look`: the leaf is split by the split rule, or
+/// on the variable of `--on`. None if the arguments do not go together.
 fn splitting_by_rule<'a>(given: &Found<'a>, input: &'a str, cubes: &'a str) -> Option<Request<'a>>
     requires input { NamesFile given.now.rows (codes "INPUT") (Some input) }
     requires list { NamesNothing given.now.rows (codes "complete") }
@@ -108,7 +112,8 @@ fn splitting_by_rule<'a>(given: &Found<'a>, input: &'a str, cubes: &'a str) -> O
     })
 }
 
-/// What the words ask for where they name these cubes and a look ahead.
+/// Makes the request of `cubes --split` with `--look`: the leaf is split by lookahead. None if the
+/// arguments do not go together.
 fn splitting_by_look<'a>(given: &Found<'a>, input: &'a str, cubes: &'a str) -> Option<Request<'a>>
     requires input { NamesFile given.now.rows (codes "INPUT") (Some input) }
     requires list { NamesNothing given.now.rows (codes "complete") }
@@ -131,7 +136,8 @@ fn splitting_by_look<'a>(given: &Found<'a>, input: &'a str, cubes: &'a str) -> O
     })
 }
 
-/// What the words ask for where they name these cubes.
+/// Makes the request of `cubes --cubes`, which splits a leaf of that tree; None if the arguments do
+/// not go together.
 fn splitting<'a>(given: &Found<'a>, input: &'a str, cubes: &'a str) -> Option<Request<'a>>
     requires input { NamesFile given.now.rows (codes "INPUT") (Some input) }
     requires list { NamesNothing given.now.rows (codes "complete") }
@@ -146,7 +152,8 @@ fn splitting<'a>(given: &Found<'a>, input: &'a str, cubes: &'a str) -> Option<Re
     splitting_by_rule(given, input, cubes)
 }
 
-/// What the words ask for where they name no cubes and a look ahead.
+/// Makes the request of `cubes --look`, which splits a formula by lookahead; None if the arguments
+/// do not go together.
 fn looking<'a>(given: &Found<'a>, input: &'a str) -> Option<Request<'a>>
     requires input { NamesFile given.now.rows (codes "INPUT") (Some input) }
     requires list { NamesNothing given.now.rows (codes "complete") }
@@ -168,7 +175,8 @@ fn looking<'a>(given: &Found<'a>, input: &'a str) -> Option<Request<'a>>
     })
 }
 
-/// What the words ask for where they name no cubes.
+/// Makes the request of `cubes` without `--cubes` and `--complete`, which splits a formula: by the
+/// split rule to a depth, or by lookahead. None if the arguments do not go together.
 fn cubing<'a>(given: &Found<'a>, input: &'a str) -> Option<Request<'a>>
     requires input { NamesFile given.now.rows (codes "INPUT") (Some input) }
     requires list { NamesNothing given.now.rows (codes "complete") }
@@ -190,7 +198,8 @@ fn cubing<'a>(given: &Found<'a>, input: &'a str) -> Option<Request<'a>>
     })
 }
 
-/// What the words ask for where they name a list of cubes.
+/// Makes the request of `cubes --complete`, which completes a list of cubes to a tree; None if the
+/// arguments do not go together.
 fn completing<'a>(given: &Found<'a>, input: &'a str, list: &'a str) -> Option<Request<'a>>
     requires input { NamesFile given.now.rows (codes "INPUT") (Some input) }
     requires list { NamesFile given.now.rows (codes "complete") (Some list) }
@@ -207,7 +216,8 @@ fn completing<'a>(given: &Found<'a>, input: &'a str, list: &'a str) -> Option<Re
     Some(Request::Complete { input, list })
 }
 
-/// What the words ask for where they name no list of cubes.
+/// Makes the request of `cubes` without `--complete`: splits a leaf if `--cubes` is given, and else
+/// the formula. None if the arguments do not go together.
 fn splitting_or_cubing<'a>(given: &Found<'a>, input: &'a str) -> Option<Request<'a>>
     requires input { NamesFile given.now.rows (codes "INPUT") (Some input) }
     requires list { NamesNothing given.now.rows (codes "complete") }
@@ -221,7 +231,8 @@ fn splitting_or_cubing<'a>(given: &Found<'a>, input: &'a str) -> Option<Request<
     }
 }
 
-/// What its words ask for.
+/// Makes the request of the parsed arguments of `cubes`; None if a required one is missing, a
+/// number is out of range, or they do not go together.
 pub(crate) fn asked<'a>(given: &Found<'a>) -> Option<Request<'a>>
     ensures found { IfSome result (Makes (codes "cubes") given.now.rows) }
     ensures none { IfNone result ((request : Request) → Makes (codes "cubes") given.now.rows request → ⊥) }

@@ -1,4 +1,4 @@
-//! The words of `drill`.
+//! The command `drill`: the table of its arguments, and the request that they make.
 
 ghost use Rattle.std.specs.Prelude.{◌≡◌, IfSome, IfNone, codes};
 ghost use Rattle.command_line.specs.CommandLine.{IsInRange, Makes};
@@ -10,7 +10,7 @@ use crate::commands::words::{INPUT, file_of, number_of};
 use crate::request::Request;
 use option_table::{CommandRules, Found, Need, Word};
 
-/// The words.
+/// The arguments that `drill` takes.
 static RULES: CommandRules<'static> = CommandRules {
     name: "drill",
     about: "Plays drawn turns of a cluster of a DIMACS formula, and counts what goes wrong",
@@ -34,14 +34,16 @@ static RULES: CommandRules<'static> = CommandRules {
     ],
 };
 
-/// The same, handed out: what has all of them has not their tables before it.
+/// The table of the arguments of `drill`. It is a function and no constant, so that proofs of its
+/// callers do not unfold the table.
 pub(crate) fn rules() -> CommandRules<'static>
     ensures { app_of_command result ≡ drill_app }
 {
     RULES
 }
 
-/// What its words ask for.
+/// Makes the request of the parsed arguments of `drill`; None if a required one is missing, a
+/// number is out of range, or they do not go together.
 pub(crate) fn asked<'a>(given: &Found<'a>) -> Option<Request<'a>>
     ensures found { IfSome result (Makes (codes "drill") given.now.rows) }
     ensures none { IfNone result ((request : Request) → Makes (codes "drill") given.now.rows request → ⊥) }

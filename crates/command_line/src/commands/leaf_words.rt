@@ -1,4 +1,4 @@
-//! The words of a leaf, which the commands on one leaf share, and the number that they name.
+//! The words of a leaf, which several commands share, and the number that they give.
 
 ghost use Rattle.std.specs.Prelude.{◌-◌, ◌^◌, ℕ, Option, IfSome, IfNone};
 ghost use Rattle.command_line.specs.CommandLine.{IsLeafNumber, NamesAnyNumber, NamesLeaf};
@@ -9,14 +9,14 @@ use option_table::{Found, Need, Word};
 /// The greatest number of a leaf.
 pub(crate) const LAST_LEAF: u64 = 4_294_967_295;
 
-/// The file of the cubes.
+/// The word of the file of cubes.
 pub(crate) const CUBES: Word<'static> = Word::NamedFile {
     name: "cubes",
     required: true,
     help: "The cubes, an iCNF file that is read, whose clauses are those of INPUT",
 };
 
-/// The leaf, by the number of its cube.
+/// The word of a leaf, by the number of its cube.
 pub(crate) const LEAF: Word<'static> = Word::Number {
     name: "leaf",
     low: 1,
@@ -25,7 +25,7 @@ pub(crate) const LEAF: Word<'static> = Word::Number {
     help: "The leaf, by the number of its cube in that file, from 1 to 4294967295",
 };
 
-/// The leaf that the words name.
+/// The number that `--leaf` gives; None if it is not given, or out of range.
 pub(crate) fn leaf_of(given: &Found) -> Option<u32>
     ensures found { IfSome result (NamesLeaf given.now.rows) }
     ensures none { IfNone result ((leaf : ℕ) → NamesLeaf given.now.rows leaf → ⊥) }
@@ -35,7 +35,8 @@ pub(crate) fn leaf_of(given: &Found) -> Option<u32>
     Some(leaf as u32)
 }
 
-/// The leaf that an option names, or that the words give it none.
+/// The number of a leaf that an option gives; the inner None if the option is not given, the outer
+/// one if its value is out of range.
 pub(crate) fn leaf_or_none(given: &Found, name: &str) -> Option<Option<u32>>
     ensures found { IfSome result (NamesAnyNumber given.now.rows name.now 1 (2 ^ 32 - 1)) }
     ensures none { IfNone result ((leaf : Option ℕ) → NamesAnyNumber given.now.rows name.now 1 (2 ^ 32 - 1) leaf → ⊥) }

@@ -1,4 +1,4 @@
-//! The words of `lift`.
+//! The command `lift`: the table of its arguments, and the request that they make.
 
 ghost use Rattle.std.specs.Prelude.{◌≡◌, IfSome, IfNone, codes};
 ghost use Rattle.command_line.specs.CommandLine.{IsInRange, Makes};
@@ -8,16 +8,17 @@ ghost use Rattle.option_table.specs.Rules.{app_of_command};
 
 use crate::commands::leaf_words::{CUBES, LAST_LEAF, leaf_or_none};
 use crate::commands::run_words::BINARY;
-use crate::commands::words::{INPUT, file_of, is_given};
+use crate::commands::words::{INPUT, LARGE, file_of, is_given};
 use crate::request::Request;
 use option_table::{CommandRules, Found, Need, Word};
 
-/// The words.
+/// The arguments that `lift` takes.
 static RULES: CommandRules<'static> = CommandRules {
     name: "lift",
     about: "Makes a fragment of INPUT of a proof of the formula of a leaf, or of a text for leaves",
     after_help: "Status: 0 the fragment is written, 20 it closes all these leaves, 1 it is not written, or an error",
     words: &[
+        LARGE,
         CUBES,
         Word::Number {
             name: "leaf",
@@ -52,14 +53,16 @@ static RULES: CommandRules<'static> = CommandRules {
     ],
 };
 
-/// The same, handed out: what has all of them has not their tables before it.
+/// The table of the arguments of `lift`. It is a function and no constant, so that proofs of its
+/// callers do not unfold the table.
 pub(crate) fn rules() -> CommandRules<'static>
     ensures { app_of_command result ≡ lift_app }
 {
     RULES
 }
 
-/// What its words ask for.
+/// Makes the request of the parsed arguments of `lift`; None if a required one is missing, a number
+/// is out of range, or they do not go together.
 pub(crate) fn asked<'a>(given: &Found<'a>) -> Option<Request<'a>>
     ensures found { IfSome result (Makes (codes "lift") given.now.rows) }
     ensures none { IfNone result ((request : Request) → Makes (codes "lift") given.now.rows request → ⊥) }

@@ -1,4 +1,4 @@
-//! The words of `receipt`.
+//! The command `receipt`: the table of its arguments, and the request that they make.
 
 ghost use Rattle.std.specs.Prelude.{◌≡◌, IfSome, IfNone, codes};
 ghost use Rattle.command_line.specs.CommandLine.{IsInRange, Makes};
@@ -11,7 +11,7 @@ use crate::commands::words::{INPUT, file_of};
 use crate::request::Request;
 use option_table::{CommandRules, Found, Word};
 
-/// The words.
+/// The arguments that `receipt` takes.
 static RULES: CommandRules<'static> = CommandRules {
     name: "receipt",
     about: "Checks a log of a DIMACS formula, and writes which clauses of it close leaves",
@@ -32,14 +32,16 @@ static RULES: CommandRules<'static> = CommandRules {
     ],
 };
 
-/// The same, handed out: what has all of them has not their tables before it.
+/// The table of the arguments of `receipt`. It is a function and no constant, so that proofs of its
+/// callers do not unfold the table.
 pub(crate) fn rules() -> CommandRules<'static>
     ensures { app_of_command result ≡ receipt_app }
 {
     RULES
 }
 
-/// What its words ask for.
+/// Makes the request of the parsed arguments of `receipt`; None if a required one is missing, a
+/// number is out of range, or they do not go together.
 pub(crate) fn asked<'a>(given: &Found<'a>) -> Option<Request<'a>>
     ensures found { IfSome result (Makes (codes "receipt") given.now.rows) }
     ensures none { IfNone result ((request : Request) → Makes (codes "receipt") given.now.rows request → ⊥) }

@@ -1,4 +1,4 @@
-//! The words of `refute`.
+//! The command `refute`: the table of its arguments, and the request that they make.
 
 ghost use Rattle.std.specs.Prelude.{◌≡◌, IfSome, IfNone, codes};
 ghost use Rattle.command_line.specs.CommandLine.{IsInRange, Makes};
@@ -8,19 +8,20 @@ ghost use Rattle.option_table.specs.Rules.{app_of_command};
 
 use crate::commands::leaf_words::{CUBES, LAST_LEAF, LEAF, leaf_of, leaf_or_none};
 use crate::commands::run_words::{BINARY, NO_WITNESS, QUIET, printing_of};
-use crate::commands::words::{INPUT, file_of, is_given, number_of};
+use crate::commands::words::{INPUT, LARGE, file_of, is_given, number_of};
 use crate::request::Request;
 use option_table::{CommandRules, Found, Need, Word};
 
-/// The most lemmas that the search under a cube can be allowed, 2 ^ 47: no search meets them.
+/// The greatest limit of lemmas of the search under a cube, 2^47: no search learns so many.
 const MOST_LEMMAS: u64 = 140_737_488_355_328;
 
-/// The words.
+/// The arguments that `refute` takes.
 static RULES: CommandRules<'static> = CommandRules {
     name: "refute",
     about: "Searches under a leaf of a DIMACS formula, and makes a fragment of its proof",
     after_help: "Status: 20 the leaf is refuted, 10 satisfiable, 0 unknown, 1 an error",
     words: &[
+        LARGE,
         CUBES,
         LEAF,
         Word::Number {
@@ -49,14 +50,16 @@ static RULES: CommandRules<'static> = CommandRules {
     ],
 };
 
-/// The same, handed out: what has all of them has not their tables before it.
+/// The table of the arguments of `refute`. It is a function and no constant, so that proofs of its
+/// callers do not unfold the table.
 pub(crate) fn rules() -> CommandRules<'static>
     ensures { app_of_command result ≡ refute_app }
 {
     RULES
 }
 
-/// What its words ask for.
+/// Makes the request of the parsed arguments of `refute`; None if a required one is missing, a
+/// number is out of range, or they do not go together.
 pub(crate) fn asked<'a>(given: &Found<'a>) -> Option<Request<'a>>
     ensures found { IfSome result (Makes (codes "refute") given.now.rows) }
     ensures none { IfNone result ((request : Request) → Makes (codes "refute") given.now.rows request → ⊥) }

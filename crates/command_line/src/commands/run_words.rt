@@ -1,4 +1,4 @@
-//! The words that runs share, and the options that they name.
+//! The words of a run, which several commands share, and the options that they give.
 
 ghost use Rattle.std.specs.Prelude.{◌≡◌, ◌≤◌, ℕ, Option, IfSome, IfNone, codes};
 ghost use Rattle.command_line.specs.CommandLine.{NamesAnyNumber, NamesOptions, NamesPrinting, usual_depth};
@@ -10,10 +10,10 @@ use crate::options::Options;
 use crate::output::Printing;
 use option_table::{Found, Need, Word};
 
-/// What help says of the status of a run.
+/// What help says of the exit status of a run.
 pub(crate) const STATUS: &str = "Status: 10 satisfiable, 20 unsatisfiable, 0 unknown, 1 an error";
 
-/// How many workers there are.
+/// The word of the number of workers.
 pub(crate) const WORKERS: Word<'static> = Word::Number {
     name: "workers",
     low: 1,
@@ -22,7 +22,7 @@ pub(crate) const WORKERS: Word<'static> = Word::Number {
     help: "How many workers there are, from 1 to 64",
 };
 
-/// How deep the formula is split.
+/// The word of the depth to which the formula is split.
 pub(crate) const DEPTH: Word<'static> = Word::Number {
     name: "depth",
     low: 0,
@@ -31,7 +31,7 @@ pub(crate) const DEPTH: Word<'static> = Word::Number {
     help: "How many variables a cube has at most, from 0 to 16",
 };
 
-/// How far a leaf is searched.
+/// The word of the limit of lemmas in the search under a leaf.
 pub(crate) const LIMIT: Word<'static> = Word::Number {
     name: "limit",
     low: 1,
@@ -40,14 +40,14 @@ pub(crate) const LIMIT: Word<'static> = Word::Number {
     help: "How many lemmas may be learnt under a cube, from 1 to 1000000000",
 };
 
-/// The cubes, in place of a split.
+/// The word of the cubes that are taken instead of a split.
 pub(crate) const CUBES: Word<'static> = Word::NamedFile {
     name: "cubes",
     required: false,
     help: "Take the cubes of this iCNF file, whose clauses are those of INPUT",
 };
 
-/// How many variables are defined.
+/// The word of the number of defined variables.
 pub(crate) const DEFS: Word<'static> = Word::Number {
     name: "defs",
     low: 0,
@@ -56,43 +56,43 @@ pub(crate) const DEFS: Word<'static> = Word::Number {
     help: "How many variables are defined before INPUT is split, from 0 to 64",
 };
 
-/// Whether `c` lines are left out.
+/// The word by which `c` lines are left out.
 pub(crate) const QUIET: Word<'static> = Word::Flag {
     name: "quiet",
     letter: 'q',
     help: "Print no c lines, but for c usage",
 };
 
-/// Whether the `v` lines of an assignment are left out.
+/// The word by which the `v` lines of an assignment are left out.
 pub(crate) const NO_WITNESS: Word<'static> = Word::Flag {
     name: "no-witness",
     letter: 'n',
     help: "Print no v lines",
 };
 
-/// Whether the proof is written in binary form.
+/// The word by which the proof is written in binary form.
 pub(crate) const BINARY: Word<'static> = Word::LongFlag {
     name: "binary",
     help: "Write the proof in binary form",
 };
 
-/// The proof.
+/// The word of the proof.
 pub(crate) const PROOF: Word<'static> = Word::File {
     name: "PROOF",
     required: false,
     help: "The file to which an LRAT proof is written, where nothing satisfies INPUT",
 };
 
-/// Whether it is told how far the run has come.
+/// The word by which the progress of the run is shown.
 pub(crate) const PROGRESS: Word<'static> = Word::LongFlag {
     name: "progress",
     help: "Tell on standard error, once a second, how far the run has come",
 };
 
-/// The most seconds of patience.
+/// The greatest number of seconds of patience.
 const LONGEST: u64 = 1_000_000_000;
 
-/// How long a task may take.
+/// The word of the seconds that a task may take.
 pub(crate) const PATIENCE: Word<'static> = Word::Number {
     name: "patience",
     low: 1,
@@ -101,7 +101,8 @@ pub(crate) const PATIENCE: Word<'static> = Word::Number {
     help: "How many seconds a task may take while another worker is free; else for ever",
 };
 
-/// The patience that the words name, or that they name none.
+/// The seconds that `--patience` gives; the inner None if it is not given, the outer one if its
+/// value is out of range.
 fn patience_of(given: &Found) -> Option<Option<u64>>
     ensures found { IfSome result (NamesAnyNumber given.now.rows (codes "patience") 1 1000000000) }
     ensures none { IfNone result ((patience : Option ℕ) → NamesAnyNumber given.now.rows (codes "patience") 1 1000000000 patience → ⊥) }
@@ -113,16 +114,17 @@ fn patience_of(given: &Found) -> Option<Option<u64>>
     Some(Some(seconds))
 }
 
-/// Where the workers of a run are.
+/// Where the workers of a run come from.
 #[derive(Clone, Copy)]
 pub(crate) enum Place {
     /// In this process.
     Here,
-    /// Wherever they come from to its port.
+    /// From other processes, which connect to a port.
     AtPort,
 }
 
-/// How deep the formula is split if no word says it. Many leaves let many workers end at the same time.
+/// The depth to which the formula is split if no word gives it: the more workers there may be, the more leaves there are, so that all
+/// workers end at nearly the same time.
 fn usual_depth(place: Place, workers: u64) -> u64
     ensures depth { result ≡ usual_depth place workers }
     ensures most { result ≤ 16 }
@@ -141,7 +143,8 @@ fn usual_depth(place: Place, workers: u64) -> u64
     }
 }
 
-/// The options that the words of a run name; the usual one if its command has no word for it.
+/// The options that the words of a run give, the default for each that they do not give or that the command does not have; None if a number
+/// is out of range.
 pub(crate) fn options_of(given: &Found, place: Place) -> Option<Options>
     ensures found { IfSome result (NamesOptions place given.now.rows) }
     ensures none { IfNone result ((options : Options) → NamesOptions place given.now.rows options → ⊥) }
@@ -174,7 +177,7 @@ pub(crate) fn options_of(given: &Found, place: Place) -> Option<Options>
     })
 }
 
-/// What the words say is left out of what is printed.
+/// What is printed, by the flags `-q` and `--no-witness`.
 pub(crate) fn printing_of(given: &Found) -> Printing
     ensures { NamesPrinting given.now.rows result }
 {

@@ -1,4 +1,4 @@
-//! The words of `session`.
+//! The command `session`: the table of its arguments, and the request that they make.
 
 ghost use Rattle.std.specs.Prelude.{◌≡◌, ℕ, Option, IfSome, IfNone, codes};
 ghost use Rattle.command_line.specs.CommandLine.{IsInRange, IsSessionLimit, Makes, NamesAnyNumber};
@@ -7,19 +7,20 @@ ghost use Rattle.command_line.specs.Program.{session_app};
 ghost use Rattle.option_table.specs.Rules.{app_of_command};
 
 use crate::commands::run_words::printing_of;
-use crate::commands::words::{file_of, is_named, number_of};
+use crate::commands::words::{LARGE, file_of, is_named, number_of};
 use crate::request::Request;
 use option_table::{CommandRules, Found, Need, Word};
 
-/// The greatest limit.
+/// The greatest limit of lemmas of a query.
 const LAST_LIMIT: u64 = 1_000_000_000;
 
-/// The words.
+/// The arguments that `session` takes.
 static RULES: CommandRules<'static> = CommandRules {
     name: "session",
     about: "Answers queries between which clauses are given, with a LIDRUP proof of all answers",
     after_help: "Status: that of the last answer, 10, 20 or 0; 0 without one, 1 an error",
     words: &[
+        LARGE,
         Word::Number {
             name: "limit",
             low: 1,
@@ -45,14 +46,16 @@ static RULES: CommandRules<'static> = CommandRules {
     ],
 };
 
-/// The same, handed out: what has all of them has not their tables before it.
+/// The table of the arguments of `session`. It is a function and no constant, so that proofs of its
+/// callers do not unfold the table.
 pub(crate) fn rules() -> CommandRules<'static>
     ensures { app_of_command result ≡ session_app }
 {
     RULES
 }
 
-/// The limit that the words name, or that they name none.
+/// The number of lemmas that `--limit` gives; the inner None if it is not given, the outer one if
+/// its value is out of range.
 fn limit_of(given: &Found) -> Option<Option<u64>>
     ensures found { IfSome result (NamesAnyNumber given.now.rows (codes "limit") 1 1000000000) }
     ensures none { IfNone result ((limit : Option ℕ) → NamesAnyNumber given.now.rows (codes "limit") 1 1000000000 limit → ⊥) }
@@ -65,7 +68,8 @@ fn limit_of(given: &Found) -> Option<Option<u64>>
     Some(Some(lemmas))
 }
 
-/// What its words ask for.
+/// Makes the request of the parsed arguments of `session`; None if a required one is missing, a
+/// number is out of range, or they do not go together.
 pub(crate) fn asked<'a>(given: &Found<'a>) -> Option<Request<'a>>
     ensures found { IfSome result (Makes (codes "session") given.now.rows) }
     ensures none { IfNone result ((request : Request) → Makes (codes "session") given.now.rows request → ⊥) }

@@ -1,4 +1,4 @@
-//! The words of `solve`.
+//! The command `solve`: the table of its arguments, and the request that they make.
 
 ghost use Rattle.std.specs.Prelude.{◌≡◌, IfSome, IfNone, codes};
 ghost use Rattle.command_line.specs.CommandLine.{IsInRange, Makes};
@@ -10,28 +10,31 @@ use crate::commands::run_words::{
     BINARY, CUBES, DEFS, DEPTH, LIMIT, NO_WITNESS, PROGRESS, PROOF, Place, QUIET, STATUS, WORKERS,
     options_of,
 };
-use crate::commands::words::{INPUT, file_of};
+use crate::commands::words::{INPUT, LARGE, file_of};
 use crate::request::Request;
 use option_table::{CommandRules, Found};
 
-/// The words.
+/// The arguments that `solve` takes.
 static RULES: CommandRules<'static> = CommandRules {
     name: "solve",
     about: "Decides a DIMACS formula, with an LRAT proof where nothing satisfies it",
     after_help: STATUS,
     words: &[
-        PROGRESS, WORKERS, DEPTH, LIMIT, CUBES, DEFS, BINARY, QUIET, NO_WITNESS, INPUT, PROOF,
+        LARGE, PROGRESS, WORKERS, DEPTH, LIMIT, CUBES, DEFS, BINARY, QUIET, NO_WITNESS, INPUT,
+        PROOF,
     ],
 };
 
-/// The same, handed out: what has all of them has not their tables before it.
+/// The table of the arguments of `solve`. It is a function and no constant, so that proofs of its
+/// callers do not unfold the table.
 pub(crate) fn rules() -> CommandRules<'static>
     ensures { app_of_command result ≡ solve_app }
 {
     RULES
 }
 
-/// What its words ask for.
+/// Makes the request of the parsed arguments of `solve`; None if a required one is missing, a
+/// number is out of range, or they do not go together.
 pub(crate) fn asked<'a>(given: &Found<'a>) -> Option<Request<'a>>
     ensures found { IfSome result (Makes (codes "solve") given.now.rows) }
     ensures none { IfNone result ((request : Request) → Makes (codes "solve") given.now.rows request → ⊥) }

@@ -1,4 +1,4 @@
-//! The words of `trim`.
+//! The command `trim`: the table of its arguments, and the request that they make.
 
 ghost use Rattle.std.specs.Prelude.{◌≡◌, IfSome, IfNone, codes};
 ghost use Rattle.command_line.specs.CommandLine.{IsInRange, Makes};
@@ -7,16 +7,17 @@ ghost use Rattle.command_line.specs.Program.{trim_app};
 ghost use Rattle.option_table.specs.Rules.{app_of_command};
 
 use crate::commands::run_words::BINARY;
-use crate::commands::words::{INPUT, file_of, is_given};
+use crate::commands::words::{INPUT, LARGE, file_of, is_given};
 use crate::request::Request;
 use option_table::{CommandRules, Found, Word};
 
-/// The words.
+/// The arguments that `trim` takes.
 static RULES: CommandRules<'static> = CommandRules {
     name: "trim",
     about: "Checks an LRAT proof of a DIMACS formula, and writes what its empty clause needs",
     after_help: "Status: 0 the proof is right and OUT is written, 1 it is not, or an error",
     words: &[
+        LARGE,
         BINARY,
         INPUT,
         Word::File {
@@ -32,14 +33,16 @@ static RULES: CommandRules<'static> = CommandRules {
     ],
 };
 
-/// The same, handed out: what has all of them has not their tables before it.
+/// The table of the arguments of `trim`. It is a function and no constant, so that proofs of its
+/// callers do not unfold the table.
 pub(crate) fn rules() -> CommandRules<'static>
     ensures { app_of_command result ≡ trim_app }
 {
     RULES
 }
 
-/// What its words ask for.
+/// Makes the request of the parsed arguments of `trim`; None if a required one is missing, a number
+/// is out of range, or they do not go together.
 pub(crate) fn asked<'a>(given: &Found<'a>) -> Option<Request<'a>>
     ensures found { IfSome result (Makes (codes "trim") given.now.rows) }
     ensures none { IfNone result ((request : Request) → Makes (codes "trim") given.now.rows request → ⊥) }

@@ -1,4 +1,4 @@
-//! Words that commands share, and the files and numbers that words give.
+//! Words that several commands share, and the files and numbers that words give.
 
 ghost use Rattle.std.specs.Prelude.{◌≡◌, ◌≤◌, ℕ, List, IfOk, IfSome, IfNone, false, true};
 ghost use Rattle.std.specs.Borrow.{Bor};
@@ -8,14 +8,20 @@ ghost use Rattle.command_line.specs.CommandLine.{IsNumber, NamesFile, NamesFiles
 use option_table::{Found, Need, Word};
 use std::alloc::{AllocError, Global};
 
-/// The formula.
+/// The word of the formula.
 pub(crate) const INPUT: Word<'static> = Word::File {
     name: "INPUT",
     required: true,
     help: "The formula, a DIMACS CNF file that is read",
 };
 
-/// The port.
+/// Whether the limits on INPUT are the large ones.
+pub(crate) const LARGE: Word<'static> = Word::LongFlag {
+    name: "large",
+    help: "Take an INPUT of up to 99999999 variables, as many clauses, and 999999999 literals",
+};
+
+/// The word of the port.
 pub(crate) const PORT: Word<'static> = Word::Number {
     name: "port",
     low: 1,
@@ -24,14 +30,14 @@ pub(crate) const PORT: Word<'static> = Word::Number {
     help: "The port of 127.0.0.1, from 1 to 65535",
 };
 
-/// The file that the words name, if they name one.
+/// The file that the command line gives to the argument `name`; None if it gives none.
 pub(crate) fn file_of<'a>(given: &Found<'a>, name: &str) -> Option<&'a str>
     ensures { NamesFile given.now.rows name.now result }
 {
     given.text(name)
 }
 
-/// The number that a text says, if it is in the range.
+/// The number that a text spells; None if it spells none, or one that is not from `low` to `high`.
 fn number_in(text: &str, low: u64, high: u64) -> Option<u64>
     ensures some { IfSome result (IsNumber low high text.now) }
     ensures none { IfNone result ((number : ℕ) → IsNumber low high text.now number → ⊥) }
@@ -42,7 +48,7 @@ fn number_in(text: &str, low: u64, high: u64) -> Option<u64>
     }
 }
 
-/// Whether the words give something to an option.
+/// Whether the command line gives a value to the argument `name`.
 pub(crate) fn is_named(given: &Found, name: &str) -> bool
     ensures yes { result ≡ true → NamesNothing given.now.rows name.now → ⊥ }
     ensures no { result ≡ false → NamesNothing given.now.rows name.now }
@@ -53,14 +59,15 @@ pub(crate) fn is_named(given: &Found, name: &str) -> bool
     }
 }
 
-/// Whether a flag is given.
+/// Whether the command line gives the flag `name`.
 pub(crate) fn is_given(given: &Found, name: &str) -> bool
     ensures { NamesFlag given.now.rows name.now result }
 {
     given.flag(name)
 }
 
-/// The number in a range that the words give to an option.
+/// The number that the command line gives to the option `name`; None if it gives none, or one that
+/// is not from `low` to `high`.
 pub(crate) fn number_of<'a>(given: &Found<'a>, name: &str, low: u64, high: u64) -> Option<u64>
     ensures found { IfSome result (NamesNumber given.now.rows name.now low high) }
     ensures none { IfNone result ((number : ℕ) → NamesNumber given.now.rows name.now low high number → ⊥) }
@@ -71,7 +78,8 @@ pub(crate) fn number_of<'a>(given: &Found<'a>, name: &str, low: u64, high: u64) 
     }
 }
 
-/// The number in a range that the words give to an option, or the usual one if it is left out or the command has none such.
+/// The number that the command line gives to the option `name`, or `usual` if it gives none; None
+/// if the number is not from `low` to `high`.
 pub(crate) fn number_or<'a>(
     given: &Found<'a>,
     name: &str,
@@ -90,7 +98,8 @@ pub(crate) fn number_or<'a>(
     }
 }
 
-/// The files that the words name, all of them in their order; none if they name no file.
+/// The files that the command line gives to the argument `name`, in their order; None if it gives
+/// none.
 pub(crate) fn files_of<'a>(
     alloc: Global,
     given: &Found<'a>,

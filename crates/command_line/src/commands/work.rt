@@ -1,4 +1,4 @@
-//! The words of `work`.
+//! The command `work`: the table of its arguments, and the request that they make.
 
 ghost use Rattle.std.specs.Prelude.{◌≡◌, IfSome, IfNone, codes};
 ghost use Rattle.command_line.specs.CommandLine.{IsInRange, Makes};
@@ -13,7 +13,7 @@ use crate::commands::words::{INPUT, PORT, file_of, number_of};
 use crate::request::Request;
 use option_table::{CommandRules, Found, Need, Word};
 
-/// The words.
+/// The arguments that `work` takes.
 static RULES: CommandRules<'static> = CommandRules {
     name: "work",
     about: "Works for the one who serves this DIMACS formula at a port",
@@ -47,14 +47,16 @@ static RULES: CommandRules<'static> = CommandRules {
     ],
 };
 
-/// The same, handed out: what has all of them has not their tables before it.
+/// The table of the arguments of `work`. It is a function and no constant, so that proofs of its
+/// callers do not unfold the table.
 pub(crate) fn rules() -> CommandRules<'static>
     ensures { app_of_command result ≡ work_app }
 {
     RULES
 }
 
-/// What its words ask for.
+/// Makes the request of the parsed arguments of `work`; None if a required one is missing, a number
+/// is out of range, or they do not go together.
 pub(crate) fn asked<'a>(given: &Found<'a>) -> Option<Request<'a>>
     ensures found { IfSome result (Makes (codes "work") given.now.rows) }
     ensures none { IfNone result ((request : Request) → Makes (codes "work") given.now.rows request → ⊥) }

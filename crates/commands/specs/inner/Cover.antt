@@ -2,7 +2,7 @@
 use Rattle.std.specs.Prelude.{◌≡◌, ◌⊎◌, ◌≤◌, ◌<◌, ℕ, Bool, true, false, List, length, Option}
 use Rattle.commands.specs.Cover.{most_bytes}
 use Rattle.commands.specs.Names.{Gone}
-use Rattle.commands.specs.Known.{Of}
+use Rattle.commands.specs.Known.{HoldsOf}
 use Rattle.commands.specs.declared.cover_receipts.Run.{Run}
 use Rattle.commands.specs.declared.small_file.SmallText.{SmallText}
 use Rattle.commands.specs.declared.small_file.SmallText.TheVariants.{Whole, TooLong, Unread}
@@ -24,7 +24,7 @@ IsTextOf bytes Unread = ⊥
 
 -- what is read of a file: what comes of its bytes, or that it cannot be read
 abbrev pub IsText : Option (List ℕ) → SmallText → Type 0
-IsText known text = Of known (λ bytes. IsTextOf bytes text) ⊎ (text ≡ Unread)
+IsText known text = HoldsOf known (λ bytes. IsTextOf bytes text) ⊎ (text ≡ Unread)
 
 -- ---- the run
 -- the run has the cover, the lines and the count of `s`

@@ -1,18 +1,18 @@
 -- The states of a reader of events, and what it has heard.
-use Rattle.std.specs.Prelude.{◌≡◌, ℕ, max, Bool, true, false, List, [], ◌∷◌, ◌++◌, Option, Some, None, All, if◌then◌else◌}
-use Rattle.commands.specs.Known.{Of}
+use Rattle.std.specs.Prelude.{◌≡◌, ℕ, Bool, true, false, List, [], ◌∷◌, ◌++◌, Option, Some, None, All, if◌then◌else◌}
+use Rattle.commands.specs.Known.{HoldsOf}
 use Rattle.commands.specs.declared.event_source.EventSource.{EventSource}
 use Rattle.commands.specs.declared.event_source.Next.{Next}
 use Rattle.commands.specs.declared.event_source.Next.TheVariants as next
 use Rattle.commands.specs.inner.Texts.{IsTaken}
-use Rattle.dimacs.specs.logic.Cnf.{greatest_of}
+use Rattle.dimacs.specs.logic.Limits.{Limits}
 use Rattle.dimacs.specs.logic.Literal.{Literal, IsWithin}
 use Rattle.dimacs.specs.text.Words.{lines}
 use Rattle.icnf.specs.declared.fault.Kind.TheVariants.{NoHeader}
 use Rattle.lrat_text.specs.Lines.{IsOpen}
 use Rattle.sessions.specs.Answers.{Event}
 use Rattle.sessions.specs.Events.{Progress, literals_of}
-use Rattle.sessions.specs.Heard.{Heard, at_end, greatest, heard, heard_from}
+use Rattle.sessions.specs.Heard.{Heard, at_end, greatest, heard_from, heard_within}
 use Rattle.sessions.specs.Rows.{event_of}
 use Rattle.sessions.specs.Sides.{Ends}
 use Rattle.sessions.specs.declared.event_lines.Sent.{Sent}
@@ -27,17 +27,11 @@ TakesLine (Some all) None ended line = ⊥
 TakesLine (Some all) (Some left) true line = IsOpen line × (all ≡ line) × (left ≡ [])
 TakesLine (Some all) (Some left) false line = IsOpen line × (all ≡ line ++ (10 ∷ left))
 
--- the greatest variable of the events so far, after a line of this kind with these literals; `number` is the greatest one before
-abbrev pub counted : Sent → List Literal → ℕ → ℕ
-counted sent.Nothing ls number = number
-counted sent.Clause ls number = max (greatest_of ls) number
-counted sent.Query ls number = max (greatest_of ls) number
-
--- the literals of a line of this kind have variables from 1 to 1,000,000, if it has an event
-abbrev pub AreWithin : Sent → List Literal → Type 0
-AreWithin sent.Nothing ls = Unit {0}
-AreWithin sent.Clause ls = All (IsWithin 1000000) ls
-AreWithin sent.Query ls = All (IsWithin 1000000) ls
+-- the literals of a line of this kind have variables from 1 to most, if it has an event
+abbrev pub AreWithin : ℕ → Sent → List Literal → Type 0
+AreWithin most sent.Nothing ls = Unit {0}
+AreWithin most sent.Clause ls = All (IsWithin most) ls
+AreWithin most sent.Query ls = All (IsWithin most) ls
 
 -- the literals of a line of this kind have variables from 1 to `greatest`, if it has an event
 abbrev pub IsWaiting : Sent → ℕ → List Literal → Type 0
@@ -71,21 +65,22 @@ coming_by true n p more = at_end n p
 coming_by false n p more = heard_from n (lines more) p
 
 module _ {B : Type 0} where
-  -- these bytes were read, and of them the events E were heard, whatever bytes follow
-  pub record HasHeard (bytes : List ℕ) (E : List Event) (x : EventSource B) : Type 0 where
-    pub is : (more : List ℕ) → Ends x.has_ended more → heard (bytes ++ more) ≡ after_events E (coming_by x.has_ended x.read x.lines.progress more)
+  -- these bytes were read within the limits, and of them the events E were heard, whatever bytes follow
+  pub record HasHeard (L : Limits) (bytes : List ℕ) (E : List Event) (x : EventSource B) : Type 0 where
+    pub is : (more : List ℕ) → Ends x.has_ended more → heard_within L (bytes ++ more) ≡ after_events E (coming_by x.has_ended x.read x.lines.progress more)
     pub greatest_is : x.greatest ≡ greatest E
-    pub within : All (λ e. All (IsWithin 1000000) (literals_of e)) E
+    pub within : All (λ e. All (IsWithin L.vars) (literals_of e)) E
+    pub limits : x.lines.progress.limits ≡ L
 
-  -- of all bytes of a source, if they are known, those were read of which the events E were heard
-  pub record Hears (all : Option (List ℕ)) (remaining : B → Option (List ℕ)) (E : List Event) (x : EventSource B) : Type 0 where
+  -- of all bytes of a source, if they are known, those were read of which the events E were heard within the limits
+  pub record Hears (L : Limits) (all : Option (List ℕ)) (remaining : B → Option (List ℕ)) (E : List Event) (x : EventSource B) : Type 0 where
     pub bytes : List ℕ
     pub taken : IsTaken all bytes (remaining x.source) x.has_ended
-    pub heard_so : HasHeard bytes E x
+    pub heard_so : HasHeard L bytes E x
 
-  -- after the events E this comes next: a line, whose event is heard; the end, by which all bytes come to E; or a fault, by which all bytes
-  -- come to E and this fault
-  abbrev pub HearsNext : Option (List ℕ) → (B → Option (List ℕ)) → List Event → EventSource B → Next → Type 0
-  HearsNext all remaining E x (next.Line says) = Hears all remaining (E ++ listed (event_of says x.lines.read.literals)) x
-  HearsNext all remaining E x next.Ended = Of all (λ text. heard text ≡ record { events = E; fault = None })
-  HearsNext all remaining E x (next.Faulty fault) = Of all (λ text. heard text ≡ record { events = E; fault = Some fault })
+  -- after the events E, within the limits, this comes next: a line, whose event is heard; the end, by which all bytes come to E; or a
+  -- fault, by which all bytes come to E and this fault
+  abbrev pub HearsNext : Limits → Option (List ℕ) → (B → Option (List ℕ)) → List Event → EventSource B → Next → Type 0
+  HearsNext L all remaining E x (next.Line says) = Hears L all remaining (E ++ listed (event_of says x.lines.read.literals)) x
+  HearsNext L all remaining E x next.Ended = HoldsOf all (λ text. heard_within L text ≡ record { events = E; fault = None })
+  HearsNext L all remaining E x (next.Faulty fault) = HoldsOf all (λ text. heard_within L text ≡ record { events = E; fault = Some fault })

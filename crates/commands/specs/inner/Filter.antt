@@ -1,4 +1,4 @@
--- A filter takes bytes, and the bytes that it hands out are written to a file in the making.
+-- A filter takes bytes, and the bytes that it hands out are appended to an unfinished file.
 use Rattle.std.specs.Prelude.{◌≡◌, ◌++◌, ℕ, Bool, List, []}
 use Rattle.std.specs.Global.{Vec}
 use Rattle.std.proofs.Common.{sym, subst, append_assoc, append-nil}
@@ -9,7 +9,7 @@ use Rattle.commands.specs.Written.{Keeps}
 use Rattle.reports.specs.declared.report.Report.{Report}
 use Rattle.commands.specs.inner.Parts.{IsPart}
 
--- the bytes `more` were written to the file in the making, from its state `old` to `new`
+-- the bytes `more` were appended to the unfinished file, from its state `old` to `new`
 abbrev pub Grew : {F : Type 0} → (F → List ℕ → List ℕ → Type 0) → Part F → Part F → List ℕ → Type 0
 Grew made old new more = (binary : Bool) (path before : List ℕ) → IsPart made binary path before old → IsPart made binary path (before ++ more) new
 
@@ -59,8 +59,10 @@ poured_piece made moved more p q a b c piece out h g k =
     let P : List ℕ → Type 0 = λ xs. moved a c xs out in
     record { out = out; moves = subst P (append-nil piece) (more a b c piece [] [] out h k); grew = g }
 
--- How the written file is settled: with the last bytes it is kept at its path, or the disk is as it was. The positions are: what a file in
--- the making is for and was given, what is kept between two disks, the disk before and after, the file, how the filter ended, the report.
+-- `Settles made kept old new part ending r`: from the disk `old` to `new` the written file (`part`)
+-- is kept at its path with the last bytes, or the disk is as it was, as the filter ended. `made`
+-- tells for which path an unfinished file is, and its bytes; `kept` what is kept between two disks;
+-- r is the report.
 abbrev pub Settles : {D F : Type 0} → (F → List ℕ → List ℕ → Type 0) → (D → D → List ℕ → List ℕ → Type 0) → D → D → Part F → Ending → Report → Type 0
 Settles made kept old new part (Kept rest report) r = (r ≡ report) × ((binary : Bool) (path text : List ℕ) → IsPart made binary path text part → Keeps kept old new binary path (text ++ rest.items))
 Settles made kept old new part (Dropped report) r = (r ≡ report) × (new ≡ old)

@@ -3,7 +3,7 @@ use Rattle.std.specs.Prelude.{◌≡◌, ◌≢◌, ◌⊎◌, ◌++◌, ◌∷�
 use Rattle.std.proofs.Common.{sym, ◌∙◌, subst, append_assoc, append-nil}
 use Rattle.commands.specs.Names.{AreTaken, Gone, names_behind, names_of, none_gone}
 use Rattle.commands.specs.Join.{AnswersBy, GoesOn, IsStored, OneStops, ReadsFile, Stops, Takes, end_line, without_file}
-use Rattle.commands.specs.Known.{Of}
+use Rattle.commands.specs.Known.{HoldsOf}
 use Rattle.commands.specs.declared.drafts.Target.{Target}
 use Rattle.commands.specs.declared.join_run.Ended.{Ended}
 use Rattle.commands.specs.declared.join_run.JoinOptions.{JoinOptions}
@@ -19,11 +19,13 @@ use Rattle.leaves.specs.Join.{IsFileOutcome}
 use Rattle.leaves.specs.Leaf.{Prints}
 use Rattle.leaves.specs.declared.file_outcome.FileOutcome.{FileOutcome}
 use Rattle.leaves.specs.declared.file_outcome.FileOutcome.TheVariants.{Satisfies}
-use Rattle.lrat_forms.specs.Forms.{is_binary, text_form}
+use Rattle.lrat_forms.specs.Forms.{is_binary, text_form_within}
+use Rattle.lrat_text.specs.Log.{log_top}
 use Rattle.reports.specs.declared.refusal.Refusal.{Refusal}
 use Rattle.reports.specs.declared.report.Report.{Report}
 
--- the file of the proof has the bytes `written`, in the form of the target; there is no file if there is no target
+-- `HasPart made target written part`: the file of the proof has the bytes `written`, in the form of
+-- the target; there is no file if there is no target
 abbrev pub HasPart : {E : Type 0} → (E → List ℕ → List ℕ → Type 0) → Option Target → List ℕ → Option (Part E) → Type 0
 HasPart made None written None = Unit {0}
 HasPart made None written (Some p) = ⊥
@@ -72,11 +74,13 @@ joined_on_more made d e f a b c p q r xs ys h k = (k.0 ∙ h.0, joined_more made
 -- a file of these bytes was read to its end after these files, is told as what it is, and is joined with them
 pub record EndsFile {E : Type 0} (made : E → List ℕ → List ℕ → Type 0) (target : Option Target) (F : Cnf) (cubes : List Cube) (files : List (List ℕ)) (bytes : List ℕ)
     (join : FormJoin) (part : Option (Part E)) (e : Ended) : Type 0 where
-  pub tells : IsFileOutcome F cubes (map text_form files) (text_form bytes) e.end
+  pub tells : IsFileOutcome F cubes (map (text_form_within (log_top F)) files) (text_form_within (log_top F) bytes) e.end
   pub form : e.is_binary ≡ is_binary bytes
   pub stands : Stands made target F cubes (files ++ bytes ∷ []) [] join part
 
--- the file of which the bytes so far were joined is ended, from the join `old` to `new`, and told as what it is (`EndsFile`)
+-- `Ends made old new part after e`: the file of which the bytes so far were joined is ended, from
+-- the join `old` to `new` and from the file of the proof `part` to `after`, and told as what it is:
+-- e (`EndsFile`)
 abbrev pub Ends : {E : Type 0} → (E → List ℕ → List ℕ → Type 0) → FormJoin → FormJoin → Option (Part E) → Option (Part E) → Ended → Type 0
 Ends made old new part after e = (target : Option Target) (F : Cnf) (cubes : List Cube) (files : List (List ℕ)) (bytes : List ℕ)
     → Stands made target F cubes files bytes old part → EndsFile made target F cubes files bytes new after e
@@ -85,7 +89,9 @@ Ends made old new part after e = (target : Option Target) (F : Cnf) (cubes : Lis
 abbrev pub IsKept : Sheet → Sheet → Type 0
 IsKept old new = (new.options ≡ old.options) × (new.count ≡ old.count)
 
--- a file that was read to its end does not end the run, and has its line; or it satisfies the formula, and the report tells so
+-- `Tells old notes e name report`: a file of this name, which was read to its end (e), does not end
+-- the run, and its line is added to those of the sheet `old`, which gives `notes`; or it satisfies
+-- the formula, and the report tells so
 abbrev pub Tells : Sheet → List ℕ → Ended → List ℕ → Option Report → Type 0
 Tells old notes e name None = GoesOn e.end × (notes ≡ old.notes.items ++ end_line old.options.quiet e.is_binary old.count name e.end)
 Tells old notes e name (Some r) = (values : List Bool) × (e.end ≡ Satisfies values) × Prints 10 (old.notes.items ++ satisfied_lines values old.options.witness) r
@@ -106,7 +112,7 @@ Goes At Takes Stops (Some r) = Stops r
 
 -- a file under this name leads a run from `old` to `new`: it is read to its end, or cannot be
 abbrev pub TakesSome : Cnf → List Cube → Bool → Option (List ℕ) → List ℕ → Gone → Gone → Type 0
-TakesSome F cubes quiet known name old new = Of known (λ bytes. ReadsFile F cubes quiet name bytes old new) ⊎ (new ≡ without_file name old)
+TakesSome F cubes quiet known name old new = HoldsOf known (λ bytes. ReadsFile F cubes quiet name bytes old new) ⊎ (new ≡ without_file name old)
 
 -- The bytes `list` of a list of names were read. Without a report the whole names among them were gone through, and whatever bytes follow,
 -- `begun` is the beginning of the next name; a report ends the run, whatever bytes follow.
@@ -124,8 +130,10 @@ pub record IsListing {D E : Type 0} (made : E → List ℕ → List ℕ → Type
   pub options_is : sheet.options ≡ options
   pub listed : IsListed (λ t. IsAt made F cubes t [] t.count join part sheet) (Takes holds apart disk options F cubes) (Stops holds apart disk options F cubes) list begun found
 
--- The file of the proof is put at its path if the status of the report is 20; else the disk is as it was. The positions are: what a file in
--- the making is for and was given, what is kept between two disks, the disk before and after, the file, what the join answered, the report.
+-- `IsSettled made kept old new part found r`: from the disk `old` to `new` the file of the proof
+-- (`part`) is put at its path if the status of the report r is 20; else the disk is as it was. The
+-- join answered `found`. `made` tells for which path an unfinished file is, and its bytes; `kept`
+-- what is kept between two disks.
 abbrev pub IsSettled : {D E : Type 0} → (E → List ℕ → List ℕ → Type 0) → (D → D → List ℕ → List ℕ → Type 0) → D → D → Option (Part E) → Result Report Refusal → Report → Type 0
 IsSettled made kept old new part found r = (found ≡ Ok r)
     × (r.status ≡ 20 → (target : Option Target) (proof : List ℕ) → HasPart made target proof part → IsStored kept old new target proof)

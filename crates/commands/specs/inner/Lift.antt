@@ -17,16 +17,16 @@ use Rattle.lidrup.specs.CubeLog.{ComesTo}
 use Rattle.lidrup.specs.Lidrup.{lidrup_of}
 use Rattle.lidrup.specs.View.{state_of}
 use Rattle.lrat_check.specs.declared.line_checker.CheckFault.{CheckFault}
-use Rattle.lrat_forms.specs.Forms.{is_binary, text_form}
-use Rattle.lrat_text.specs.Log.{Closes}
+use Rattle.lrat_forms.specs.Forms.{is_binary, text_form_within}
+use Rattle.lrat_text.specs.Log.{Closes, log_top}
 use Rattle.proof_lift.specs.Leaves.{IsRefutation}
 use Rattle.proof_lift.specs.Stream.{IsFaultOf}
 use Rattle.reports.specs.declared.report.Report.{Report}
 
 -- ---- the proof of a leaf
--- the lift of a leaf's proof has taken these bytes of a proof of the formula under the cube, and handed out the bytes `written`
+-- the lift of a leaf's proof has taken these bytes of a proof of the formula under the cube, and handed out the bytes `handed`
 abbrev pub LiftsSo : Cnf → Cube → List ℕ → List ℕ → LeafLift → Type 0
-LiftsSo F q bytes written l = HasTakenFormProof F q bytes written l.lift
+LiftsSo F q bytes handed l = HasTakenFormProof F q bytes handed l.lift
 
 -- from `old` to `new` the lift of a leaf's proof took these bytes and handed out the bytes `out`; the number of the leaf stays
 abbrev pub leaf_moves : LeafLift → LeafLift → List ℕ → List ℕ → Type 0
@@ -43,15 +43,15 @@ leaf_more a b c xs ys us vs h k = (k.0 ∙ h.0, λ F q. moves_more (LiftsSo F q)
 -- the report tells the first fault of the proof, which is no refutation by reverse unit propagation alone
 pub record IsRefused (F : Cnf) (q : Cube) (proof : List ℕ) (r : Report) : Type 0 where
   pub fault : CheckFault
-  pub first : IsFaultOf F q (text_form proof) fault
-  pub wrong : ¬ (IsRefutation (leaf_of q F) (text_form proof))
+  pub first : IsFaultOf F q (text_form_within (log_top F) proof) fault
+  pub wrong : ¬ (IsRefutation (leaf_of q F) (text_form_within (log_top F) proof))
   pub prints : Prints 1 (fault_lines (is_binary proof) fault) r
 
 -- how the lift of a leaf's proof may end: the bytes handed out and the last ones are a log that closes the leaf; or the first fault of the
 -- proof is told
 abbrev pub EndsLeaf : LeafLift → Ending → Type 0
-EndsLeaf l (Kept rest r) = ((F : Cnf) (q : Cube) (proof written : List ℕ) → LiftsSo F q proof written l → Closes F q (written ++ rest.items)) × Prints 0 (lifted_text l.leaf) r
-EndsLeaf l (Dropped r) = (F : Cnf) (q : Cube) (proof written : List ℕ) → LiftsSo F q proof written l → IsRefused F q proof r
+EndsLeaf l (Kept rest r) = ((F : Cnf) (q : Cube) (proof handed : List ℕ) → LiftsSo F q proof handed l → Closes F q (handed ++ rest.items)) × Prints 0 (lifted_text l.leaf) r
+EndsLeaf l (Dropped r) = (F : Cnf) (q : Cube) (proof handed : List ℕ) → LiftsSo F q proof handed l → IsRefused F q proof r
 
 -- ---- a text for several leaves
 -- from `old` to `new` the lift of a LIDRUP text took these bytes and handed out the bytes `out`
@@ -75,6 +75,6 @@ pub record IsFaulty (F : Cnf) (text : List ℕ) (r : Report) : Type 0 where
 -- how the lift of a LIDRUP text may end: the bytes handed out and the last ones are the log that the text comes to, and the report tells
 -- which leaves it closes; or the first fault of the text is told
 abbrev pub EndsEach : BlockLift → Ending → Type 0
-EndsEach l (Kept rest r) = (F : Cnf) (place : ℕ) (cubes : List Cube) (text written : List ℕ) → HasTakenBlock F place cubes text written l
-    → ComesTo F text (written ++ rest.items) (state_of l.log.lines.known) × PrintsBlock F place cubes text (written ++ rest.items) r
-EndsEach l (Dropped r) = (F : Cnf) (place : ℕ) (cubes : List Cube) (text written : List ℕ) → HasTakenBlock F place cubes text written l → IsFaulty F text r
+EndsEach l (Kept rest r) = (F : Cnf) (place : ℕ) (cubes : List Cube) (text handed : List ℕ) → HasTakenBlock F place cubes text handed l
+    → ComesTo F text (handed ++ rest.items) (state_of l.log.lines.known) × PrintsBlock F place cubes text (handed ++ rest.items) r
+EndsEach l (Dropped r) = (F : Cnf) (place : ℕ) (cubes : List Cube) (text handed : List ℕ) → HasTakenBlock F place cubes text handed l → IsFaulty F text r

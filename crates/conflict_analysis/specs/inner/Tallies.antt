@@ -9,24 +9,25 @@ use Rattle.conflict_analysis.specs.Lemmas.{IsReason, occurrences_in, occurrences
 use Rattle.conflict_analysis.specs.inner.Seen.{met}
 use Rattle.conflict_analysis.specs.declared.first_uip.TrailWalk.{TrailWalk}
 
--- how often a variable is repeated by n occurrences: n times if it was seen before, else one time less
+-- how often n occurrences in a clause repeat a variable: n times if it was seen before, else once less
 abbrev pub again_of : Bool → ℕ → ℕ
 again_of before n = if before then n else n - 1
 
--- the walk after it met the literals of a clause
+-- the walk, before and after it met the literals of the clause C
 pub record HasNoted (old new : TrailWalk) (C : Clause) : Type 0 where
   pub notes : new.notes ≡ old.notes
   pub seen : (v : ℕ) → met new.seen v ≡ (met old.seen v || nat_lt 0 (occurrences v C))
   pub again : (v : ℕ) → count_by (nat_eq v) new.again.items
       ≡ count_by (nat_eq v) old.again.items + (if old.notes then again_of (met old.seen v) (occurrences v C) else 0)
 
--- a walk that has met no entry
+-- a walk's property: it has met no entry
 pub record IsFresh (w : TrailWalk) : Type 0 where
   pub none : (v : ℕ) → met w.seen v ≡ false
   pub again : w.again.items ≡ []
   pub notes : w.notes ≡ true
 
--- the clauses that were met on the way down to place i: the false one, reasons of the present level, and then reasons of lower levels
+-- the clauses that a walk met on the way down to index i: the false one, reasons of entries of the present level, and then reasons of lower
+-- levels
 pub record IsTallied (live : Live) (t : TrailValue) (number i : ℕ) (w : TrailWalk) (hints : List ℕ) : Type 0 where
   pub conflict : Clause
   pub here : List (ℕ × Clause)

@@ -1,9 +1,9 @@
--- How an event changes which places have a connection.
+-- How an event changes the places that have a connection.
 use Rattle.std.specs.Prelude.{◌≡◌, Bool, true, false, List, set, get_or}
 use Rattle.links.specs.declared.arrivals.Event.{Event}
 use Rattle.links.specs.declared.arrivals.Event.TheVariants.{Linked, Bytes, Quiet, Over}
 
--- `Linked`: the place had no connection and has one now; any other event changes no place
+-- the places with a connection, before and after an event: at `Linked` the place had none and has one now; any other event changes none
 abbrev pub Changes : Event → List Bool → List Bool → Type 0
 Changes (Linked place) old new = (get_or old place true ≡ false) × (new ≡ set old place true)
 Changes (Bytes place count) old new = new ≡ old

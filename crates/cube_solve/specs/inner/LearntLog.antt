@@ -5,8 +5,8 @@ use Rattle.dimacs.specs.logic.ClauseMap.{Live, map_of, live_in}
 use Rattle.dimacs.specs.logic.Literal.{Clause, IsWithin}
 use Rattle.dimacs.specs.logic.Propagation.{Rup}
 use Rattle.clause_arena.specs.Clauses.{Clauses, live_of}
-use Rattle.lrat_text.specs.Grammar.{LineSpells, IsStep}
-use Rattle.lrat_text.specs.Log.{IsLog, additions, AreFresh, IsNew}
+use Rattle.lrat_text.specs.Grammar.{LineSpellsWithin, IsStepWithin}
+use Rattle.lrat_text.specs.Log.{IsLog, additions, log_top, AreFresh, IsNew}
 use Rattle.lrat_text.specs.Runs.{after_steps, top_of}
 use Rattle.lrat_text.specs.WrittenLine.{line_of}
 use Rattle.lrat_text.specs.declared.step.Step.{Step}
@@ -14,10 +14,11 @@ use Rattle.lrat_text.specs.declared.step.Step.TheVariants.{Add}
 use Rattle.watches.specs.Trails.{TrailValue}
 use Rattle.cube_solve.specs.inner.Twins.{AreTwins, AreLinked, IsAdded}
 
--- the text is a fresh log with n additions, after which the live clauses are those of the arena, perhaps in another order
+-- a text's property: it is a fresh log over B with n additions, after which the live clauses are `live`, perhaps with literals in another
+-- order
 pub record IsLearnt (B : Cnf) (text : List ℕ) (n : ℕ) (live : Live) : Type 0 where
   pub steps : List Step
-  pub spells : LineSpells text steps
+  pub spells : LineSpellsWithin (log_top B) text steps
   pub log : IsLog B steps
   pub count : additions steps ≡ n
   pub fresh : AreFresh B (map_of B) steps
@@ -28,22 +29,23 @@ pub record IsLearnt (B : Cnf) (text : List ℕ) (n : ℕ) (live : Live) : Type 0
 abbrev pub AreBelow : ℕ → Live → Type 0
 AreBelow top live = (n : ℕ) (C : Clause) → live n C → (1 ≤ n) × (n < top)
 
--- a lemma that follows by reverse unit propagation was appended to the log
+-- a text grew by the line of a lemma of variables up to `vars`, under the number `id`, that follows by reverse unit propagation
 pub record IsWritten (live : Live) (vars id : ℕ) (lits : Clause) (old new : List ℕ) : Type 0 where
   pub hints : List ℕ
   pub rup : Rup live lits hints
   pub within : All (IsWithin vars) lits
-  pub limits : IsStep (Add id lits hints [])
+  pub few : vars ≤ 199999999
+  pub limits : IsStepWithin vars (Add id lits hints [])
   pub text : new ≡ old ++ line_of id (Add id lits hints [])
 
--- a lemma that has no live clause as a subset was written and added to the clauses
+-- a lemma that has no live clause as a subset was written to the log and added to the live clauses, under the number `id`
 pub record Learns (vars id : ℕ) (old new : Live) (before after : List ℕ) : Type 0 where
   pub lits : Clause
   pub written : IsWritten old vars id lits before after
   pub is_new : IsNew old lits
   pub added : IsAdded old id lits new
 
--- the clauses, trail and log of a search over a base, after n lemmas
+-- the clauses m, trail t and log of a search over the base B, after n lemmas
 pub record IsSearch (B : Cnf) (n : ℕ) (m : Clauses) (t : TrailValue) (text : List ℕ) : Type 0 where
   pub vars : t.vars ≡ B.vars
   pub below : AreBelow (length B.clauses + 1 + n) (live_of m)

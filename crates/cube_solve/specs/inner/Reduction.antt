@@ -1,4 +1,4 @@
--- Reduction: lemmas that a search deletes.
+-- Reduction: which lemmas a search may delete, and what it deletes.
 use Rattle.std.specs.Prelude.{◌≡◌, ℕ, ◌<◌, ◌≤◌, List, [], ◌++◌, ◌⊎◌, length, Some, All, Contains}
 use Rattle.std.specs.List.{AllPairs}
 use Rattle.dimacs.specs.logic.ClauseMap.{Live}
@@ -12,31 +12,31 @@ use Rattle.watches.specs.declared.trail.Assigned.{Assigned}
 abbrev pub AreRising : List ℕ → Type 0
 AreRising numbers = AllPairs (λ x y. x < y) numbers
 
--- numbers of live clauses, in ascending order, from `first` on
+-- the numbers of lemmas: they are at least `first`, in ascending order, and each has a live clause
 pub record AreLemmas (first : ℕ) (live : Live) (numbers : List ℕ) : Type 0 where
   pub rising : AreRising numbers
   pub behind : All (λ n. first ≤ n) numbers
   pub lives : All (λ n. (C : Clause) × live n C) numbers
 
--- a live clause of three or more literals that is the reason of no entry
+-- a clause number's property: its clause is live, has three or more literals, and is the reason of no entry
 pub record IsDeletable (live : Live) (entries : List Assigned) (number : ℕ) : Type 0 where
   pub clause : Clause
   pub lives : live number clause
   pub long : 2 < length clause
   pub free : (e : Assigned) → Contains entries e → ¬ (e.reason ≡ Some number)
 
--- all clauses except those of some numbers
+-- the clauses `new` are those of `old` except the ones with the numbers `ids`
 pub record AreAllExcept (old : Live) (ids : List ℕ) (new : Live) : Type 0 where
   pub stays : (n : ℕ) (C : Clause) → old n C → ¬ (Contains ids n) → new n C
   pub was : (n : ℕ) (C : Clause) → new n C → ¬ (Contains ids n) × old n C
 
--- more than 2,000 lemmas are live
+-- more than 2,000 lemmas are live, with numbers from `first` on
 pub record AreMany (first : ℕ) (live : Live) : Type 0 where
   pub numbers : List ℕ
   pub lemmas : AreLemmas first live numbers
   pub many : 2000 < length numbers
 
--- lemmas were deleted, in one line of the log, while more than 2,000 were live
+-- lemmas were deleted, in one line of the log, while more than 2,000 were live: from `old` to `new`, and from the text `before` to `text`
 pub record Reduces (first : ℕ) (old new : Live) (before text : List ℕ) : Type 0 where
   pub ids : List ℕ
   pub some : 0 < length ids
@@ -48,7 +48,7 @@ pub record Reduces (first : ℕ) (old new : Live) (before text : List ℕ) : Typ
   pub written : text ≡ before ++ line_of top (Delete ids)
   pub less : AreAllExcept old ids new
 
--- nothing changed, or lemmas were deleted
+-- either clauses and text are unchanged, or lemmas were deleted in one line of the log
 abbrev pub MayReduce : ℕ → Live → Live → List ℕ → List ℕ → Type 0
 MayReduce first old new before text = (AreAllExcept old [] new × (text ≡ before)) ⊎ Reduces first old new before text
 

@@ -11,13 +11,13 @@ use Rattle.cube_solve.specs.inner.UnitClauses.{AreNoted}
 use Rattle.cube_solve.specs.declared.search.Search.{Search}
 use Rattle.cube_solve.specs.declared.state.State.{State}
 
--- the propagator is ready, clauses and trail agree, and each unassigned variable is in the decision order
+-- a state's invariant: the propagator is ready, clauses and trail agree, and each unassigned variable is in the decision order
 pub record IsSteady {P : Type 0} (is_ready : P → Clauses → TrailValue → Type 0) (attached : P → List ℕ) (s : State P) : Type 0 where
   pub ready : is_ready s.propagator.now s.arena s.trail
   pub state : IsState (attached s.propagator.now) s.arena s.trail
   pub order : IsOrder s.trail s.order
 
--- the invariant of a search over a base, after n lemmas
+-- a search's invariant, after n lemmas over the base B
 pub record IsSearching {P : Type 0} (is_ready : P → Clauses → TrailValue → Type 0) (attached : P → List ℕ) (B : Cnf) (n : ℕ) (s : Search P) : Type 0 where
   pub steady : IsSteady is_ready attached s.state
   pub learnt : IsSearch B n s.state.arena s.state.trail s.log

@@ -17,20 +17,20 @@ pub record AreHeld (held : ℕ) (cube : List Literal) (entries : List Assigned) 
   pub few : held ≤ length cube
   pub true_all : (k : ℕ) (d : Literal) → k < held → holds entries (slice_index_or cube k d) ≡ true
 
--- an unassigned literal of the trail's variables
+-- a literal's property: its variable is one of the trail's, and is not assigned
 pub record IsUnassigned (t : TrailValue) (l : Literal) : Type 0 where
   pub within : IsWithin t.vars l
   pub not_true : holds t.entries l ≡ false
   pub not_false : holds t.entries (negation l) ≡ false
 
--- the next step is right for a trail and a cube
+-- the next step of a search: it is right for the trail t and the cube
 abbrev pub IsNext : TrailValue → List Literal → Next → Type 0
 IsNext t cube (next.Assume l) = Contains cube l × IsUnassigned t l
 IsNext t cube (next.Fails l) = Contains cube l × (holds t.entries (negation l) ≡ true) × (holds t.entries l ≡ false)
 IsNext t cube (next.Decide l) = AllHold t.entries cube × IsUnassigned t l
 IsNext t cube next.Done = AllHold t.entries cube × IsTotal t
 
--- the end of a descent is right
+-- the end of a descent: it is right for the clauses m, the trail t and the cube
 abbrev pub IsFound : Clauses → TrailValue → List Literal → Found → Type 0
 IsFound m t cube found.Model = NoneFalseOrUnit (live_of m) (holds t.entries) × AllHold t.entries cube × IsTotal t
 IsFound m t cube (found.Clause n) = IsConflict (live_of m) t.entries n

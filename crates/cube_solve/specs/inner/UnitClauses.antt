@@ -1,4 +1,4 @@
--- Unit clauses, and the unit lemma of a literal that is true at level 0.
+-- Noted unit clauses, and the unit lemma of a literal that is true at level 0.
 use Rattle.std.specs.Prelude.{◌≡◌, ℕ, ◌<◌, true, List, [], ◌∷◌, ◌⊎◌, slice_index_or, Contains}
 use Rattle.dimacs.specs.logic.ClauseMap.{Live}
 use Rattle.dimacs.specs.logic.Literal.{Literal, Clause, IsWithin, negation, var_of}
@@ -7,11 +7,11 @@ use Rattle.conflict_analysis.specs.declared.lemma.Lemma.{Lemma}
 use Rattle.watches.specs.declared.trail.Assigned.{Assigned}
 use Rattle.watches.specs.Trails.{TrailValue, holds, up_to}
 
--- a unit clause of a literal, perhaps with the literal repeated
+-- the clause C is a unit clause of the literal l, which it may repeat
 abbrev pub IsUnitOf : Clause → Literal → Type 0
 IsUnitOf C l = Contains C l × ((k : Literal) → Contains C k → k ≡ l)
 
--- a unit clause of the variable is noted, or the variable has no place in the table
+-- a unit clause of the variable v is noted in the table, or the table has no entry for v
 abbrev pub IsNoted : List ℕ → ℕ → Type 0
 IsNoted numbers v = 0 < slice_index_or numbers v 1
 

@@ -6,7 +6,7 @@ use Rattle.cube_split.specs.Definitions.{Opening}
 use Rattle.cube_split.specs.ChoiceWithDefinitions.{Chooses}
 use Rattle.cube_split.specs.SplitTree.{IsSplitBy}
 
--- `after` is `before` followed by the leaves below a path
+-- leaves, before and after: those below a path, by the split rule at most this many levels deep, are appended
 pub record AppendsChosen (F : Cnf) (opening : Opening) (levels : ℕ) (path : Cube) (before after : List Cube) : Type 0 where
   pub cubes : List Cube
   pub appended : after ≡ before ++ cubes

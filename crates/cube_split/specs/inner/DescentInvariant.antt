@@ -8,16 +8,16 @@ use Rattle.cube_split.specs.Definitions.{IsPairOf, Opening}
 use Rattle.cube_split.specs.inner.WalkInvariant.{IsWalkAt, from_start, widened}
 use Rattle.cube_split.specs.declared.descent.Descent.{Descent}
 
--- the trail has the literals that hold along the path, except those that hold from the start
+-- the trail of a descent has the literals that hold along the path, except those that hold from the start
 pub record IsTrailOf (F : Cnf) (opening : Opening) (path trail : Cube) : Type 0 where
   pub holds : (l : Literal) → has (from_start F opening ++ trail) l ≡ has (holding F opening path) l
   pub short : length trail ≤ 3 * length path
 
--- the descent through the tree of this formula and this opening is at a path
+-- the invariant of a descent through the tree of this formula and this opening, at a path
 pub record IsDescentAt (F : Cnf) (opening : Opening) (path trail : Cube) (s : Descent) : Type 0 where
   pub vars : s.vars ≡ F.vars
   pub pairs : s.pairs.items ≡ opening.pairs
-  pub few : (F.vars ≤ 1000000) × (length opening.pairs ≤ 64)
+  pub few : (F.vars ≤ 99999999) × (length opening.pairs ≤ 64)
   pub formed : All (IsPairOf F.vars) opening.pairs
   pub within : AreWithin F.vars F.clauses
   pub along : IsTrailOf F opening path trail

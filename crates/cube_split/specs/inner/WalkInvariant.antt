@@ -8,11 +8,11 @@ use Rattle.cube_split.specs.Choice.{is_apart, stands_in}
 use Rattle.cube_split.specs.ChoiceWithDefinitions.{held_by}
 use Rattle.cube_split.specs.Definitions.{Opening}
 use Rattle.cube_split.specs.inner.Marks.{AreMarked}
-use Rattle.cube_split.specs.inner.Open.{AreIndexed}
+use Rattle.cube_split.specs.inner.OpenClauses.{AreIndexed}
 use Rattle.cube_split.specs.inner.Places.{clause_of}
 use Rattle.cube_split.specs.declared.walk.Walk.{Walk}
 
--- the level of the first literal of the trail that the clause contains, with levels from n on; 0 if it contains none
+-- the level of the first literal of the trail that the clause contains, if their levels are n, n + 1, ..; 0 if it contains none
 abbrev pub level_of : ℕ → Cube → Clause → ℕ
 level_of n [] C = 0
 level_of n (l ∷ trail) C = if has C l then n else level_of (n + 1) trail C
@@ -21,12 +21,12 @@ level_of n (l ∷ trail) C = if has C l then n else level_of (n + 1) trail C
 abbrev pub closed_at : List Literal → Cube → Clause → ℕ
 closed_at units trail C = if is_apart units C then level_of 2 trail C else 1
 
--- the table has 1 for each clause with a literal that passes the test, and 0 for each other clause
+-- a table's property: it has 1 for each clause with a literal that passes the test, and 0 for each other clause
 pub record IsClosedBy (test : Literal → Bool) (clauses : List Clause) (closed : List ℕ) : Type 0 where
   pub size : length closed ≡ length clauses
   pub level : (i : ℕ) → i < length clauses → slice_index closed i ≡ (if list_any test (slice_index_or clauses i []) then 1 else 0)
 
--- `variables` has each variable that occurs in a clause without a literal of the units
+-- a list `variables` has each variable that occurs in a clause without a literal of the units
 pub record AreOpenVariables (f : Cnf) (units : List Literal) (variables : List ℕ) : Type 0 where
   pub inside : (k : ℕ) → k < length variables → (0 < slice_index variables k) × (slice_index variables k ≤ f.vars)
   pub listed : (w : ℕ) → 0 < w → w ≤ f.vars → 0 < stands_in f.clauses units w → (k : ℕ) × (k < length variables) × (slice_index variables k ≡ w)
@@ -35,14 +35,14 @@ pub record AreOpenVariables (f : Cnf) (units : List Literal) (variables : List �
 abbrev pub widened : Cnf → Opening → Cnf
 widened F opening = record { vars = F.vars + length opening.pairs; clauses = F.clauses }
 
--- the literals that hold at the root
+-- the literals that hold at the root: the units of the opening, and the pairs of those that are defined variables
 abbrev pub from_start : Cnf → Opening → List Literal
 from_start F opening = opening.units ++ held_by opening.units (F.vars + 1) opening.pairs
 
--- the tables of a walk that is at this trail
+-- the invariant of a walk, with these units and this trail
 pub record IsWalkAt (f : Cnf) (units : List Literal) (trail : Cube) (s : Walk) : Type 0 where
-  pub vars : f.vars ≤ 1000064
-  pub few : length f.clauses ≤ 4000000
+  pub vars : f.vars ≤ 100000063
+  pub few : length f.clauses ≤ 99999999
   pub within : AreWithin f.vars f.clauses
   pub rows : length s.counts.items ≡ f.vars + 1
   pub marks : length s.marks.items ≡ 2 * length s.counts.items

@@ -4,29 +4,31 @@ use Rattle.decide_heap.specs.Decisions.{Decisions, IsNoWorse}
 use Rattle.decide_heap.specs.Heap.{members_of}
 use Rattle.decide_heap.specs.declared.rows.Rows.{Rows}
 
--- the variables by place, the place of each, its score, and how many are in the heap
+-- the tables of a heap: the rows in their order, the index of each row in it, the score of each row, and the number of rows that are in the
+-- heap
 pub record Tables : Type 0 where
   pub heap : List ℕ
   pub places : List ℕ
   pub scores : List ℕ
   pub len : ℕ
 
+-- the value of the tables
 abbrev pub tables_of : Rows → Tables
 tables_of r = record { heap = r.heap.items; places = r.places.items; scores = r.scores.items; len = r.len }
 
--- the variables as callers see them
+-- the value of the tables as callers see it
 abbrev pub decisions_of : Tables → Decisions
 decisions_of t = record { vars = length t.scores; scores = t.scores; members = members_of t.places t.len }
 
--- with a variable at a place of the heap
+-- the tables with row `var` at index `at` of the heap
 abbrev pub filled : Tables → ℕ → ℕ → Tables
 filled t at var = record t { heap = slice_set t.heap at var; places = slice_set t.places var at }
 
--- the parent of a place of the heap
+-- the index of the parent in a binary heap
 abbrev pub parent : ℕ → ℕ
 parent c = (c - 1) / 2
 
--- `heap` is a permutation of the variables, and `places` is its inverse
+-- `heap` is a permutation of the rows, and `places` is its inverse
 pub record ArePaired (heap places : List ℕ) : Type 0 where
   pub long : length places ≡ length heap
   pub variable : (i : ℕ) → i < length heap → slice_index heap i < length heap
@@ -34,49 +36,51 @@ pub record ArePaired (heap places : List ℕ) : Type 0 where
   pub within : (v : ℕ) → v < length heap → slice_index places v < length heap
   pub there : (v : ℕ) → v < length heap → slice_index heap (slice_index places v) ≡ v
 
--- the entries at i and j are exchanged
+-- the lists are the same, except that the entries at i and j are exchanged
 pub record AreSwapped (old new : List ℕ) (i j : ℕ) : Type 0 where
   pub first : slice_index new i ≡ slice_index old j
   pub second : slice_index new j ≡ slice_index old i
   pub others : (k : ℕ) → k ≢ i → k ≢ j → slice_index new k ≡ slice_index old k
 
--- the variable at one place is no worse than that at another
+-- the variable at index i of the heap is no worse than that at index j
 abbrev pub IsOver : List ℕ → List ℕ → ℕ → ℕ → Type 0
 IsOver scores heap i j = IsNoWorse (slice_index scores) (slice_index heap i) (slice_index heap j)
 
--- the heap order, for each place below len whose parent is `from` or a later place: the parent is no worse
+-- the heap order at each index below len whose parent is at `from` or later: the parent's variable is no worse
 pub record IsOrdered (scores heap : List ℕ) (len from : ℕ) : Type 0 where
   pub below : (c : ℕ) → 0 < c → c < len → from ≤ parent c → IsOver scores heap (parent c) c
 
+-- the heap order of tables at each index whose parent is at `from` or later
 abbrev pub IsOrderedFrom : Tables → ℕ → Type 0
 IsOrderedFrom t from = IsOrdered t.scores t.heap t.len from
 
--- the heap order, except that the variable at one place may be better than its ancestors
+-- the heap order, except that the variable at index `at` may be better than its ancestors
 pub record IsRising (scores heap : List ℕ) (len at : ℕ) : Type 0 where
   pub others : (c : ℕ) → 0 < c → c < len → c ≢ at → IsOver scores heap (parent c) c
   pub across : (c : ℕ) → 0 < c → c < len → parent c ≡ at → 0 < at → IsOver scores heap (parent at) c
 
+-- the heap order of tables, except that the variable at index `at` may be better than its ancestors
 abbrev pub IsRisingAt : Tables → ℕ → Type 0
 IsRisingAt t at = IsRising t.scores t.heap t.len at
 
--- each variable has a row in each table, and a place in the heap
+-- the invariant of tables: each variable has a row in each table and an index in the heap
 pub record AreRows (t : Tables) : Type 0 where
   pub limit : length t.scores < 2 ^ 31
   pub size : length t.heap ≡ length t.scores
   pub count : t.len ≤ length t.scores
   pub paired : ArePaired t.heap t.places
 
--- consistent tables, whose first len places are in heap order
+-- the invariant of tables between two calls: each variable has its row and index, and the first len indices are in heap order
 pub record IsHeap (t : Tables) : Type 0 where
   pub rows : AreRows t
   pub ordered : IsOrderedFrom t 0
 
--- only places of variables changed
+-- tables, before and after: only the indices of rows changed
 pub record AreMoved (old new : Tables) : Type 0 where
   pub long : length new.heap ≡ length old.heap
   pub rest : new ≡ record old { heap = new.heap; places = new.places }
 
--- each table has memory for so many rows
+-- each table has memory for this number of rows
 pub record HaveRoom (r : Rows) (rows : ℕ) : Type 0 where
   pub heap : rows ≤ vec_capacity r.heap
   pub places : rows ≤ vec_capacity r.places

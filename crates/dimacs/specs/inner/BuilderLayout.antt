@@ -5,7 +5,8 @@ use Rattle.dimacs.specs.logic.Cnf.{greatest_of}
 use Rattle.dimacs.specs.logic.Limits.{large}
 use Rattle.dimacs.specs.logic.Literal.{Clause, IsWithin}
 
--- a builder's lists: within the limits, the offsets begin at 0 and do not fall, and greatest is the literals' greatest variable
+-- the invariant of a builder's fields: the lists are within the limits, the offsets begin at 0 and do not fall, and greatest is the
+-- greatest variable of the literals
 pub record IsLaid (literals : Clause) (places : List ℕ) (greatest : ℕ) : Type 0 where
   pub total : length literals ≤ large.literals
   pub count : length places ≤ large.clauses + 1

@@ -2,7 +2,7 @@
 use Rattle.std.specs.Prelude.{ℕ, List}
 use Rattle.dimacs.specs.logic.Literal.{Clause}
 
--- the clauses that have ended, the literals of the open one, and the number of literals in all
+-- the clauses that have ended, the literals of the open one, and the number of literals in all clauses, also the open one
 pub record BuilderState : Type 0 where
   pub done : List Clause
   pub open_clause : Clause

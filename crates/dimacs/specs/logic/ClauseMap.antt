@@ -10,14 +10,14 @@ use Rattle.dimacs.specs.logic.Cnf.{Cnf}
 abbrev pub ClauseMap : Type 0
 ClauseMap = FinMap nat_cmp Clause
 
--- the formula's clauses, numbered from 1
+-- the clauses of the formula f, numbered from 1
 abbrev pub map_of : Cnf → ClauseMap
 map_of f = from_entries (enumerate_from 1 f.clauses)
 
--- which clauses are live under which numbers
+-- a relation that says which clauses are live under which numbers
 abbrev pub Live : Type 1
 Live = ℕ → Clause → Type 0
 
--- the clauses of a map are live under their numbers
+-- the clauses of the map M are live under their numbers
 abbrev pub live_in : ClauseMap → Live
 live_in M n C = get M n ≡ Some C

@@ -1,9 +1,9 @@
--- The numbers of faults.
+-- The numbers of the faults of a DIMACS text.
 use Rattle.std.specs.Prelude.{ℕ}
 use Rattle.dimacs.specs.declared.fault.Kind.{Kind}
 use Rattle.dimacs.specs.declared.fault.Kind.TheVariants.{NoHeader, BadHeader, BadToken, VariableAboveHeader, ClauseNotEnded, TooFewClauses, TooManyClauses, AboveLimit, NoMemory}
 
--- the fault number that is printed
+-- the fault number that is printed, from 1 to 9
 abbrev pub number_of_kind : Kind → ℕ
 number_of_kind NoHeader = 1
 number_of_kind BadHeader = 2

@@ -1,4 +1,4 @@
--- What the parsers of one field and of one payload promise.
+-- The promises of the parsers of one field and of one payload.
 use Rattle.std.specs.Prelude.{◌≡◌, ◌≢◌, ℕ, List, ◌++◌, Result, Ok, Err}
 use Rattle.std.specs.Int.{w32, cast_unsigned}
 use Rattle.dimacs.specs.logic.Literal.{Literal, number_of, IsWithin}
@@ -40,7 +40,7 @@ pub record IsPayloadOf (kind : Kind) (bytes : List ℕ) (frame : Frame) : Type 0
   pub payload_is : payload frame ≡ bytes
   pub right : IsRight frame
 
--- the right frame of this kind with this payload; `BadField` if there is none, or `NoMemory`
+-- the result of a decoder is right: the right frame of this kind with this payload; `BadField` if there is none, or `NoMemory`
 abbrev pub Decodes : Kind → List ℕ → Result Frame FrameFault → Type 0
 Decodes kind bytes (Ok frame) = IsPayloadOf kind bytes frame
 Decodes kind bytes (Err fault) = FaultMeans fault ((frame : Frame) → IsPayloadOf kind bytes frame → ⊥)

@@ -1,4 +1,5 @@
--- What one line, and one piece, of a text does to the reader that compares its clauses with a formula's.
+-- What one line, and one piece, of a text leads to in the reader that compares its clauses with a formula's. The parser's state s stands
+-- for the reader's body: the body keeps what it needs of s.
 use Rattle.std.specs.Prelude.{◌≡◌, ℕ, List, ◌∷◌, ◌++◌, Option, option_map}
 use Rattle.dimacs.specs.logic.Cnf.{Cnf}
 use Rattle.dimacs.specs.logic.Limits.{Limits}
@@ -11,40 +12,42 @@ use Rattle.icnf.specs.Pieces.{kept, read_behind}
 use Rattle.icnf.specs.ReadState.{ReadState}
 use Rattle.icnf.specs.Parser.{no_memory}
 
--- the reader's body is what is kept of the parser's state
+-- the reader's body is what is kept of the parser's state s
 abbrev pub IsKept : Cnf → Option ReadState → Option TreeBody → Type 0
 IsKept F s body = body ≡ option_map (kept F.clauses) s
 
--- reading the line after that many leads the parser on, whatever lines follow, and the reader's body with it
+-- Reading the line after the first before lines leads the parser from the state s to a new state, whatever lines follow, and new is what
+-- the reader keeps of that state. The line's number is number.
 pub record TakesRow (L : Limits) (F : Cnf) (before : ℕ) (line : List ℕ) (number : ℕ) (new : Option TreeBody) (s : Option ReadState) : Type 0 where
   pub read : Option ReadState
   pub keeps : IsKept F read new
   pub goes : (more : List (List ℕ)) → read_behind L before s (line ∷ more) ≡ read_behind L number read more
 
--- the line after that many is refused by this fault, whatever lines follow
+-- in the parser's state s, after the first before lines, the line has this fault, whatever lines follow, or memory was refused
 abbrev pub RefusesRow : Limits → ℕ → List ℕ → IcnfFault → Option ReadState → Type 0
 RefusesRow L before line fault s = (more : List (List ℕ)) → Fails no_memory fault (read_behind L before s (line ∷ more))
 
+-- the reader can always be given a line
 abbrev pub MayTake : TreeLines → Type 0
 MayTake l = Unit {0}
 
--- the line is taken: it leads on from every parser state that the reader may stand for
+-- the reader takes the line and comes from old to new, whichever parser state its body keeps
 pub record TakesLine (old : TreeLines) (line : List ℕ) (new : TreeLines) : Type 0 where
   pub limits : new.limits ≡ old.limits
   pub formula : new.formula ≡ old.formula
   pub body : (s : Option ReadState) → IsKept old.formula s old.body → TakesRow old.limits old.formula old.count line new.count new.body s
 
--- the line is refused by this fault, or memory is refused
+-- the reader old refuses the line with this fault, the line's or that memory was refused
 abbrev pub RefusesLine : TreeLines → List ℕ → TreeLines → IcnfFault → Type 0
 RefusesLine old line new fault = (s : Option ReadState) → IsKept old.formula s old.body → RefusesRow old.limits old.count line fault s
 
--- reading the text leads from old to new and an unfinished line, whatever bytes follow
+-- reading the text leads from the reader old to the reader new and the incomplete line begun, whatever bytes follow
 pub record LeadsTo (old : TreeLines) (text : List ℕ) (new : TreeLines) (begun : List ℕ) : Type 0 where
   pub limits : new.limits ≡ old.limits
   pub formula : new.formula ≡ old.formula
   pub body : (s : Option ReadState) → IsKept old.formula s old.body
       → (t : Option ReadState) × IsKept old.formula t new.body × ((more : List ℕ) → read_behind old.limits old.count s (lines (text ++ more)) ≡ read_behind old.limits new.count t (lines (begun ++ more)))
 
--- the text is refused by this fault, whatever bytes follow
+-- the reader old refuses the text with this fault, whatever bytes follow, or memory was refused
 abbrev pub RefusesText : TreeLines → List ℕ → IcnfFault → Type 0
 RefusesText old text fault = (s : Option ReadState) → IsKept old.formula s old.body → (more : List ℕ) → Fails no_memory fault (read_behind old.limits old.count s (lines (text ++ more)))

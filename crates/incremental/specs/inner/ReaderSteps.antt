@@ -1,12 +1,12 @@
 -- How a reader of a session's text goes on when bytes are appended.
 use Rattle.std.specs.Prelude.{◌≡◌, ℕ, ◌≤◌, List, [], ◌++◌, length, Ok, codes}
 use Rattle.dimacs.specs.text.Words.{lines}
-use Rattle.lrat_text.specs.Grammar.{IsStep}
+use Rattle.lrat_text.specs.Grammar.{IsStepWithin}
 use Rattle.lrat_text.specs.declared.step.Step.TheVariants.{Add}
 use Rattle.cube_solve.specs.declared.answer.Answer as cube
 use Rattle.cube_solve.specs.declared.answer.Answer.TheVariants as answer
 use Rattle.sessions.specs.Answers.{Answer, Event}
-use Rattle.sessions.specs.Lines.{Fails, Shows, line_in}
+use Rattle.sessions.specs.Lines.{Fails, Shows, line_within}
 use Rattle.sessions.specs.Texts.{State, behind, text_from}
 use Rattle.incremental.specs.SessionHistory.{literals_from}
 use Rattle.incremental.specs.inner.LidrupLines.{AppendsLine}
@@ -18,14 +18,14 @@ pub record TakesReader (E : List Event) (told : List Answer) (a b : State) (n m 
   pub text : new ≡ old ++ bytes
   pub reads : (D : List Event) (more : List ℕ) → text_from a n (E ++ D) (lines (bytes ++ more)) ≡ behind told (text_from b m D (lines more))
 
--- the answer is within the limits of its lines
-abbrev pub IsShort : cube.Answer → Type 0
-IsShort (answer.Satisfied values) = length values ≤ 2000000
-IsShort (answer.Failed failure) = IsStep (Add 1 failure.core.items failure.hints.items [])
-IsShort answer.Unknown = Unit {0}
+-- the answer is within the limits of lines with variables up to `most`
+abbrev pub IsShort : ℕ → cube.Answer → Type 0
+IsShort most (answer.Satisfied values) = length values ≤ most
+IsShort most (answer.Failed failure) = IsStepWithin most (Add 1 failure.core.items failure.hints.items [])
+IsShort most answer.Unknown = Unit {0}
 
--- answer, bytes before and after: the lines of the answer were appended: its status, and then its model or its core
-abbrev pub WritesAnswer : cube.Answer → List ℕ → List ℕ → Type 0
-WritesAnswer (answer.Satisfied values) old new = (mid : List ℕ) × AppendsLine (line_in (codes "s SATISFIABLE")) old mid × AppendsLine (Ok (Shows (literals_from 1 values))) mid new
-WritesAnswer (answer.Failed failure) old new = (mid : List ℕ) × AppendsLine (line_in (codes "s UNSATISFIABLE")) old mid × AppendsLine (Ok (Fails failure.core.items failure.hints.items)) mid new
-WritesAnswer answer.Unknown old new = AppendsLine (line_in (codes "s UNKNOWN")) old new
+-- greatest variable, answer, bytes before and after: the lines of the answer were appended: its status, and then its model or its core
+abbrev pub WritesAnswer : ℕ → cube.Answer → List ℕ → List ℕ → Type 0
+WritesAnswer most (answer.Satisfied values) old new = (mid : List ℕ) × AppendsLine most (line_within most (codes "s SATISFIABLE")) old mid × AppendsLine most (Ok (Shows (literals_from 1 values))) mid new
+WritesAnswer most (answer.Failed failure) old new = (mid : List ℕ) × AppendsLine most (line_within most (codes "s UNSATISFIABLE")) old mid × AppendsLine most (Ok (Fails failure.core.items failure.hints.items)) mid new
+WritesAnswer most answer.Unknown old new = AppendsLine most (line_within most (codes "s UNKNOWN")) old new

@@ -11,6 +11,6 @@ use Rattle.lidrup.specs.declared.cube_log.CubeLog.{CubeLog}
 pub record HasReportedLeaves (x : CubeLog) (place : ℕ) (cubes : List Cube) (text : List ℕ) (status : ℕ) : Type 0 where
   pub told : List Bool
   pub long : length told ≡ length cubes
-  pub are : (F : Cnf) (bytes written : List ℕ) → HasLogged F bytes written x → AreTold F bytes (written ++ x.lines.out.items) 0 cubes told
+  pub are : (F : Cnf) (bytes handed : List ℕ) → HasLogged F bytes handed x → AreTold F bytes (handed ++ x.lines.out.items) 0 cubes told
   pub text_is : text ≡ told_text place told
   pub status_is : status ≡ (if are_closed told then 20 else 0)

@@ -19,8 +19,8 @@ use Rattle.leaves.specs.declared.search_session.Found.{Found}
 use Rattle.leaves.specs.declared.search_session.Found.TheVariants as found
 use Rattle.leaves.specs.declared.search_session.SearchSession.{SearchSession}
 use Rattle.leaves.specs.declared.block_search.BlockSearch.{BlockSearch}
-use Rattle.lrat_text.specs.Grammar.{IsClauseNumber, LineSpells}
-use Rattle.lrat_text.specs.Log.{IsLog, additions}
+use Rattle.lrat_text.specs.Grammar.{IsClauseNumber, LineSpellsWithin}
+use Rattle.lrat_text.specs.Log.{IsLog, additions, log_top}
 use Rattle.lrat_text.specs.Runs.{after_steps, top_of}
 use Rattle.lrat_text.specs.declared.step.Step.{Step}
 
@@ -44,7 +44,7 @@ module _ {P : Type 0} where
   pub record HasSearched (F : Cnf) (closing : List Clause) (steps : List Step) (s : SearchSession P) : Type 0 where
     pub given : List ℕ
     pub vars : vars_of s.session ≡ F.vars
-    pub spells : LineSpells s.log steps
+    pub spells : LineSpellsWithin (log_top F) s.log steps
     pub is_log : IsLog F steps
     pub last : last_of s.session ≡ top_of (length F.clauses) steps
     pub taken : log_of s.session ≡ []

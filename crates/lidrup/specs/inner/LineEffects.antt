@@ -26,6 +26,7 @@ pub record LogsStep (old : CheckedLog) (step : Step) (new : CheckedLog) (before 
   pub empty : new.empty ≡ empty_after old.empty step
   pub hands : HandsOn TakesLogLine old.checker (line_of old.checker.top step) new.checker []
   pub out : after ≡ before ++ line_of old.checker.top step
+  pub most : new.checker.most ≡ old.checker.most
 
 -- the steps of a line were taken: their lines were appended to the output, and `new` is the new state
 pub record CarriesOut (taken : LineResult) (old new : Translator) (before after : List ℕ) : Type 0 where
@@ -34,6 +35,7 @@ pub record CarriesOut (taken : LineResult) (old new : Translator) (before after 
   pub base : new.log.checker.base ≡ old.log.checker.base
   pub hands : HandsOn TakesLogLine old.log.checker (text_of old.log.checker.top steps) new.log.checker []
   pub out : after ≡ before ++ text_of old.log.checker.top steps
+  pub most : new.log.checker.most ≡ old.log.checker.most
 
 -- the line was refused with this fault, or memory was refused
 abbrev pub FailsAs : LineResult → LineFault → Type 0
@@ -48,14 +50,15 @@ MayTake c = Unit {0}
 pub record TakesLidrupLine (old : CubeLines) (line : List ℕ) (new : CubeLines) : Type 0 where
   pub made : List ℕ
   pub out : new.out.items ≡ old.out.items ++ made
-  pub goes_on : (later : LidrupState → LidrupResult) → lidrup_line old.known.log.checker.base (state_of old.known) old.line line later ≡ prepend made (later (state_of new.known))
+  pub goes_on : (later : LidrupState → LidrupResult) → lidrup_line old.known.log.checker.most old.known.log.checker.base (state_of old.known) old.line line later ≡ prepend made (later (state_of new.known))
   pub hands : HandsOn TakesLogLine old.known.log.checker made new.known.log.checker []
   pub base : new.known.log.checker.base ≡ old.known.log.checker.base
   pub next : new.line ≡ old.line + 1
+  pub most : new.known.log.checker.most ≡ old.known.log.checker.most
 
 -- the line has this fault, whatever follows
 abbrev pub LineFails : CubeLines → List ℕ → CheckFault → Type 0
-LineFails old line fault = (later : LidrupState → LidrupResult) → lidrup_line old.known.log.checker.base (state_of old.known) old.line line later ≡ Err fault
+LineFails old line fault = (later : LidrupState → LidrupResult) → lidrup_line old.known.log.checker.most old.known.log.checker.base (state_of old.known) old.line line later ≡ Err fault
 
 -- the line is refused with this fault: it has the fault, or memory was refused
 abbrev pub RefusesLidrupLine : CubeLines → List ℕ → CubeLines → CheckFault → Type 0
@@ -67,10 +70,10 @@ pub record Leads (begun : List ℕ) (old : CubeLines) (piece rest : List ℕ) (n
   pub made : List ℕ
   pub out : new.out.items ≡ old.out.items ++ made
   pub hands : HandsOn TakesLogLine old.known.log.checker made new.known.log.checker []
-  pub goes_on : (more : List ℕ) → lidrup_text old.known.log.checker.base (state_of old.known) old.line (begun ++ (piece ++ more))
-      ≡ prepend made (lidrup_text new.known.log.checker.base (state_of new.known) new.line (rest ++ more))
+  pub goes_on : (more : List ℕ) → lidrup_text old.known.log.checker.most old.known.log.checker.base (state_of old.known) old.line (begun ++ (piece ++ more))
+      ≡ prepend made (lidrup_text new.known.log.checker.most new.known.log.checker.base (state_of new.known) new.line (rest ++ more))
 
 -- the unfinished line and a piece lead to this fault, whatever follows; or memory was refused
 abbrev pub LeadsToFault : List ℕ → CubeLines → List ℕ → CheckFault → Type 0
 LeadsToFault begun old piece fault =
-    (fault ≡ no_memory) ⊎ ((more : List ℕ) → lidrup_text old.known.log.checker.base (state_of old.known) old.line (begun ++ (piece ++ more)) ≡ Err fault)
+    (fault ≡ no_memory) ⊎ ((more : List ℕ) → lidrup_text old.known.log.checker.most old.known.log.checker.base (state_of old.known) old.line (begun ++ (piece ++ more)) ≡ Err fault)

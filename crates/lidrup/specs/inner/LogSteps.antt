@@ -18,6 +18,7 @@ pub record ChecksStep (front : ℕ) (old : LogState) (step : Step) (new : LogSta
   pub base : new.base ≡ old.base
   pub hands : HandsOn TakesLogLine old (line_of front step) new []
   pub made_is : made ≡ line_of front step
+  pub most : new.most ≡ old.most
 
 -- the fault of the line whose step the checker refused
 abbrev pub fault_of_log : CheckFault → LineFault

@@ -22,7 +22,7 @@ pub record Closes (old new : LogJoiner) (l : Numbered) (some : Bool) : Type 0 wh
   pub begun : new.begun ≡ old.begun
   pub top : new.top ≡ old.top
   pub spent : new.spent.items ≡ old.spent.items
-  pub tree : All (IsWithin 2000000) l.clause → IsSubtree [] old.tree → IsIndexed old.index old.unclosed.items old.tree
+  pub tree : All (IsWithin 199999999) l.clause → IsSubtree [] old.tree → IsIndexed old.index old.unclosed.items old.tree
       → HasSettled l [] old.tree new.tree some × IsIndexed new.index new.unclosed.items new.tree
 
 -- one more number, `id`, is noted to be deleted

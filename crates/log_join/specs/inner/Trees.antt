@@ -53,7 +53,9 @@ AllHavePlace index C p = (l : Literal) → Contains C l → HasPlace index (nega
 abbrev pub IsFound : Index → List ℕ → Clause → List ℕ → Type 0
 IsFound index unclosed C found = (p : ℕ) → p < 65536 → Has unclosed p → AllHavePlace index C p → Has found p
 
--- a lemma has closed the open leaves that it can close of the subtree with these leaf indices; only leaves in the set `found` were tested
+-- `Settles l at old new some`: the lemma l has closed the open leaves that it can close of a
+-- subtree, which is then `new`; `at` is the range of its leaf indices, `some` tells whether one was
+-- closed. Only leaves in the set `found` of l were tested.
 abbrev pub Settles : Candidate → Places → Node → Node → Bool → Type 0
 Settles l at old new some =
     (path : Cube) (index : Index) (unclosed : List ℕ) → IsSubtree path old → ArePlaced at.from at.to old → at.to ≤ 65536 → AreCovered index at.from old

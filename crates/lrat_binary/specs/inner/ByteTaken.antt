@@ -1,4 +1,4 @@
--- What a byte makes of a step that is partly read.
+-- What the methods of a partial step answer.
 use Rattle.std.specs.Prelude.{◌≡◌, ◌≢◌, ◌≤◌, Bool, true, false, Result, Ok, Err}
 use Rattle.lrat_text.specs.declared.fault.TextFault.{TextFault}
 use Rattle.lrat_text.specs.declared.fault.TextFault.TheVariants.{NoMemory}
@@ -12,19 +12,19 @@ use Rattle.lrat_binary.specs.declared.partial_step.PartialStep.{PartialStep}
 use Rattle.lrat_binary.specs.declared.partial_step.Taken.{Taken}
 use Rattle.lrat_binary.specs.declared.partial_step.Taken.TheVariants.{More, Addition, Deletion}
 
--- the number in a token is at least 1
-abbrev pub IsCounted : Token → Type 0
-IsCounted End = Unit {0}
-IsCounted (Plus n) = 1 ≤ n
-IsCounted (Minus n) = 1 ≤ n
-IsCounted Other = Unit {0}
+-- the number in a Plus or Minus token is at least 1
+abbrev pub IsPositive : Token → Type 0
+IsPositive End = Unit {0}
+IsPositive (Plus n) = 1 ≤ n
+IsPositive (Minus n) = 1 ≤ n
+IsPositive Other = Unit {0}
 
--- the complete step
+-- the complete step in the fields of p: a deletion if the Bool is true, otherwise an addition
 abbrev pub step_held : Bool → PartialStep → Step
 step_held false p = Add p.id p.literals.items p.numbers.items p.groups
 step_held true p = Delete p.numbers.items
 
--- what an answer and the fields after it tell of an outcome
+-- a method's result, and the fields p after it, are those of this outcome; if memory was refused, nothing is said
 abbrev pub Tells : Outcome → Result Taken TextFault → PartialStep → Type 0
 Tells outcome (Ok More) p = outcome ≡ Goes (state_of p)
 Tells outcome (Ok Addition) p = outcome ≡ Ends p.limit.most (step_held false p)

@@ -1,4 +1,4 @@
--- The state after a step that has no fault.
+-- The state of a checker of proofs after a step that has no fault.
 use Rattle.std.specs.FinMap.{insert}
 use Rattle.lrat_text.specs.declared.step.Step.{Step}
 use Rattle.lrat_text.specs.declared.step.Step.TheVariants.{Add, Delete}

@@ -2,12 +2,12 @@
 use Rattle.std.specs.Prelude.{◌≡◌, ℕ, zero, suc, ◌≤◌, List, [], ◌∷◌}
 use Rattle.lrat_text.specs.declared.groups.Head.{Head}
 
--- the ends of the groups do not fall, and the last is the list's length
+-- the heads of groups whose hints begin at start are those of a list of len hints: the ends never fall, and the last end is len
 abbrev pub AreHeads : ℕ → List Head → ℕ → Type 0
 AreHeads start [] len = start ≡ len
 AreHeads start (h ∷ heads) len = (start ≤ h.end) × AreHeads h.end heads len
 
--- the place where the hints of group i begin, if those of the first one begin at start
+-- the index of the first hint of group i (from 0), if the hints of the first group begin at start
 abbrev pub start_at : ℕ → List Head → ℕ → ℕ
 start_at start heads zero = start
 start_at start [] (suc i) = start

@@ -1,8 +1,9 @@
 -- How a check takes a piece of a proof, and the report of the text of a proof.
 use Rattle.std.specs.Prelude.{◌≡◌, ◌↔◌, ◌⊎◌, ◌++◌, ℕ, Bool, true, false, List, [], None}
 use Rattle.dimacs.specs.logic.Cnf.{Cnf}
-use Rattle.dimacs.specs.text.Parser.{parse}
-use Rattle.dimacs.specs.text.Grammar.{Spells}
+use Rattle.dimacs.specs.logic.Limits.{Limits}
+use Rattle.dimacs.specs.text.Parser.{parse_within}
+use Rattle.dimacs.specs.text.Grammar.{SpellsWithin}
 use Rattle.lrat_text.specs.Proof.{Accepts}
 use Rattle.lrat_check.specs.Stream as text
 use Rattle.binary_check.specs.Stream as binary
@@ -28,9 +29,9 @@ IsFed (Text p) piece (Binary q) = ⊥
 IsFed (Binary p) piece (Awaiting F) = ⊥
 IsFed (Binary p) piece (Text q) = ⊥
 
--- the report of `check` for an input and the text of a proof
-pub record IsTextReport (input proof : List ℕ) (report : Report) : Type 0 where
-  pub verified : (report.status ≡ 0) ↔ ((F : Cnf) × Spells input F × Accepts F proof)
+-- the report of `check` for an input within the limits and the text of a proof
+pub record IsTextReport (L : Limits) (input proof : List ℕ) (report : Report) : Type 0 where
+  pub verified : (report.status ≡ 0) ↔ ((F : Cnf) × SpellsWithin L input F × Accepts F proof)
   pub status : (report.status ≡ 0) ⊎ (report.status ≡ 1)
-  pub text : report.stdout.items ≡ check_text (parse input) proof
+  pub text : report.stdout.items ≡ check_text (parse_within L input) proof
   pub no_proof : report.proof ≡ None

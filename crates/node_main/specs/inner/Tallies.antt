@@ -1,7 +1,7 @@
 -- The tally: what the code keeps of a drill from turn to turn.
 use Rattle.std.specs.Prelude.{◌≡◌, ℕ, ◌+◌, ◌<◌, ◌^◌, Bool, if◌then◌else◌}
 use Rattle.node_main.specs.DrillSchedule.{DrillState, HasHeld}
-use Rattle.node_main.specs.inner.Kinds.{AreKinds}
+use Rattle.node_main.specs.inner.VerdictKinds.{AreKinds}
 use Rattle.node_main.specs.declared.commands.drill.tally.Tally.{Tally}
 
 -- `counted old is_so`: the count `old`, one higher if `is_so` is true

@@ -1,15 +1,15 @@
 //! `drill`: plays a random closed schedule, drawn from a seed, and counts refusals and verdicts that differ.
 
-ghost use Rattle.std.specs.Prelude.{◌≡◌, ◌↔◌, ℕ, IfOk, OnErr, None, length};
+ghost use Rattle.std.specs.Prelude.{◌≡◌, ◌↔◌, ◌≤◌, ℕ, IfOk, OnErr, None, length};
 ghost use Rattle.dimacs.specs.logic.Cnf.{Cnf};
 ghost use Rattle.dimacs.specs.text.Parser.{parse};
 ghost use Rattle.dimacs.specs.text.Grammar.{Spells};
 ghost use Rattle.node_main.specs.DrillSchedule.{IsNew, StopsShort};
 ghost use Rattle.node_main.specs.DrillReports.{DrillsFormula, DrillsInput, IsCalm, ReportsDrill, drill_status, drill_text};
 
-mod kinds;
 mod tally;
 mod turn;
+mod verdict_kinds;
 mod words;
 
 use cluster::ClosedCluster;
@@ -80,6 +80,7 @@ fn drill_formula(
     seed: u64,
     turns: u32,
 ) -> Result<Report, AllocError>
+    requires { formula.now.vars ≤ 1000000 }
     ensures { IfOk result (DrillsFormula formula.now seed turns) }
 {
     let _ = formula.vars(); // its contract says that the formula is within its limits

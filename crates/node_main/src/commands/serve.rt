@@ -1,6 +1,7 @@
 //! `serve` in rounds: runs a coordinator, which decides a formula with workers of other processes.
 
 ghost use Rattle.std.specs.Prelude.{ℕ, List, ◌≤◌, ◌+◌, ◌*◌, Option, IfOk, option_map};
+ghost use Rattle.dimacs.specs.logic.Limits.{written};
 ghost use Rattle.command_line.specs.Options.{AreOptions};
 ghost use Rattle.runs.specs.Accounts.{OnceEach};
 ghost use Rattle.node_main.specs.RunCalls.{WasRun};
@@ -27,8 +28,8 @@ pub fn run_serve<L: Links>(
     links: &mut L,
 ) -> Result<Report, AllocError>
     requires { AreOptions options.now }
-    ensures report { IfOk result (Solves input.now (option_map (λ t. t.now) cubes.entry) options.now) }
-    ensures truth { IfOk result (IsTrueReport input.now) }
+    ensures report { IfOk result (Solves written input.now (option_map (λ t. t.now) cubes.entry) options.now) }
+    ensures truth { IfOk result (IsTrueReport written input.now) }
     ensures used { IfOk result (WasRun (L.call_count links.old) (L.call_count links.new)) }
     ensures most { L.call_count links.new ≤ L.call_count links.old + 4039000000 * options.now.workers }
     ensures refusals { L.refusal_count links.new ≤ L.refusal_count links.old + options.now.workers }
@@ -40,7 +41,9 @@ pub fn run_serve<L: Links>(
     }
 }
 
-/// Runs a coordinator as `run_serve` does, from a start on: so the caller can report a refused input before a worker is linked.
+/// Runs a coordinator over the links of its workers, from a start on, and reports the verdict: so
+/// the caller can report a refused input before a worker is linked. The error stands for the report
+/// `c no memory`, status 1.
 pub fn run_serve_from<L: Links>(
     alloc: Global,
     start: Start,
@@ -49,8 +52,8 @@ pub fn run_serve_from<L: Links>(
 ) -> Result<Report, AllocError>
     requires options { AreOptions options.now }
     requires start { IsStart options.now start }
-    ensures report { (input : List ℕ) (cubes : Option (List ℕ)) → Starts input cubes options.now start → IfOk result (Solves input cubes options.now) }
-    ensures truth { (input : List ℕ) (cubes : Option (List ℕ)) → Starts input cubes options.now start → IfOk result (IsTrueReport input) }
+    ensures report { (input : List ℕ) (cubes : Option (List ℕ)) → Starts written input cubes options.now start → IfOk result (Solves written input cubes options.now) }
+    ensures truth { (input : List ℕ) (cubes : Option (List ℕ)) → Starts written input cubes options.now start → IfOk result (IsTrueReport written input) }
     ensures used { IfOk result (WasRun (L.call_count links.old) (L.call_count links.new)) }
     ensures most { L.call_count links.new ≤ L.call_count links.old + 4039000000 * options.now.workers }
     ensures refusals { L.refusal_count links.new ≤ L.refusal_count links.old + options.now.workers }

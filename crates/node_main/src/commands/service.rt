@@ -1,9 +1,11 @@
 //! `serve` over links that come and go: a coordinator decides a formula with workers of other processes.
 
-ghost use Rattle.std.specs.Prelude.{◌≡◌, ◌≤◌, ℕ, All, List, IfOk, MatchOption, OnOk, Option, None, Some, option_map};
+ghost use Rattle.std.specs.Prelude.{◌≡◌, ◌<◌, ◌≤◌, ℕ, All, List, IfOk, MatchOption, OnOk, Option, None, Some, option_map};
+ghost use Rattle.dimacs.specs.logic.Limits.{written};
 ghost use Rattle.command_line.specs.Options.{AreOptions};
 ghost use Rattle.cube_split.specs.Pairs.{IsBaseWith};
 ghost use Rattle.dimacs.specs.logic.Cnf.{Cnf};
+ghost use Rattle.dimacs.specs.logic.Literal.{IsWithin};
 ghost use Rattle.evidence.specs.Jobs.{IsOverBase};
 ghost use Rattle.event_loop.specs.Accounts.{AreBounded, EachCloses, OnceEach, nobody};
 ghost use Rattle.event_loop.specs.Run.{verdict_of};
@@ -78,6 +80,8 @@ impl Service {
     pub fn hand_out<A: Arrivals>(&mut self, links: &mut A) -> Result<(), AllocError>
         ensures most { AreBounded (A.arrival_count links.old) (A.arrival_count links.new) (A.call_count links.old) (A.call_count links.new) }
         ensures handed { OnOk result (HandsOutBy self.old (A.call_count links.old) (A.call_count links.new) (A.arrival_count links.old) (A.arrival_count links.new) (A.has_ended links.new) self.new) }
+        // A link that refuses a call is closed: at each place refusals and open connections
+        // together rise by no more than the links that begin there.
         ensures closes { EachCloses (links_of self.old) (links_of self.new) (A.link_count links.old) (A.link_count links.new) (A.refusal_count links.old) (A.refusal_count links.new) }
     {
         match &mut self.run {
@@ -96,12 +100,15 @@ fn decide_arrivals<A: Arrivals>(
     links: &mut A,
 ) -> Result<Service, AllocError>
     requires inside { (B : Cnf) → IsBaseWith opened.formula opened.definitions.wanted B → All (IsOverBase B) tree }
+    requires narrow { 1000000 < opened.formula.vars → All (All (IsWithin 2000000)) tree }
     requires options { AreOptions options.now }
     ensures decides { IfOk result (λ s. Decides opened.formula options.now (report_of s)) }
     ensures used { IfOk result (λ s. WasServed (A.call_count links.old) (A.call_count links.new) (report_of s)) }
     ensures most { AreBounded (A.arrival_count links.old) (A.arrival_count links.new) (A.call_count links.old) (A.call_count links.new) }
     ensures each { OnceEach (A.link_count links.old) (A.link_count links.new) (A.refusal_count links.old) (A.refusal_count links.new) }
     ensures ended { IfOk result (λ s. HasEndedBy (A.arrival_count links.old) (A.arrival_count links.new) (A.has_ended links.new) s) }
+    // A link that refuses a call is closed: at each place refusals and open connections together
+    // rise by no more than the links that begin there.
     ensures closes { IfOk result (λ s. EachCloses nobody (links_of s) (A.link_count links.old) (A.link_count links.new) (A.refusal_count links.old) (A.refusal_count links.new)) }
 {
     let run = match event_loop::decide_of(alloc, opened, tree, &service_plan(options), links) {
@@ -127,12 +134,14 @@ pub fn run_serve_arrivals<A: Arrivals>(
     links: &mut A,
 ) -> Result<Service, AllocError>
     requires { AreOptions options.now }
-    ensures report { IfOk result (λ s. Solves input.now (option_map (λ t. t.now) cubes.entry) options.now (report_of s)) }
-    ensures truth { IfOk result (λ s. IsTrueReport input.now (report_of s)) }
+    ensures report { IfOk result (λ s. Solves written input.now (option_map (λ t. t.now) cubes.entry) options.now (report_of s)) }
+    ensures truth { IfOk result (λ s. IsTrueReport written input.now (report_of s)) }
     ensures used { IfOk result (λ s. WasServed (A.call_count links.old) (A.call_count links.new) (report_of s)) }
     ensures most { AreBounded (A.arrival_count links.old) (A.arrival_count links.new) (A.call_count links.old) (A.call_count links.new) }
     ensures each { OnceEach (A.link_count links.old) (A.link_count links.new) (A.refusal_count links.old) (A.refusal_count links.new) }
     ensures ended { IfOk result (λ s. HasEndedBy (A.arrival_count links.old) (A.arrival_count links.new) (A.has_ended links.new) s) }
+    // A link that refuses a call is closed: at each place refusals and open connections together
+    // rise by no more than the links that begin there.
     ensures closes { IfOk result (λ s. EachCloses nobody (links_of s) (A.link_count links.old) (A.link_count links.new) (A.refusal_count links.old) (A.refusal_count links.new)) }
 {
     match begin(alloc, dimacs::read(alloc, input), cubes, options) {
@@ -151,12 +160,14 @@ pub fn serve_arrivals<A: Arrivals>(
 ) -> Result<Service, AllocError>
     requires options { AreOptions options.now }
     requires start { IsStart options.now start }
-    ensures report { (input : List ℕ) (cubes : Option (List ℕ)) → Starts input cubes options.now start → IfOk result (λ s. Solves input cubes options.now (report_of s)) }
-    ensures truth { (input : List ℕ) (cubes : Option (List ℕ)) → Starts input cubes options.now start → IfOk result (λ s. IsTrueReport input (report_of s)) }
+    ensures report { (input : List ℕ) (cubes : Option (List ℕ)) → Starts written input cubes options.now start → IfOk result (λ s. Solves written input cubes options.now (report_of s)) }
+    ensures truth { (input : List ℕ) (cubes : Option (List ℕ)) → Starts written input cubes options.now start → IfOk result (λ s. IsTrueReport written input (report_of s)) }
     ensures used { IfOk result (λ s. WasServed (A.call_count links.old) (A.call_count links.new) (report_of s)) }
     ensures most { AreBounded (A.arrival_count links.old) (A.arrival_count links.new) (A.call_count links.old) (A.call_count links.new) }
     ensures each { OnceEach (A.link_count links.old) (A.link_count links.new) (A.refusal_count links.old) (A.refusal_count links.new) }
     ensures ended { IfOk result (λ s. HasEndedBy (A.arrival_count links.old) (A.arrival_count links.new) (A.has_ended links.new) s) }
+    // A link that refuses a call is closed: at each place refusals and open connections together
+    // rise by no more than the links that begin there.
     ensures closes { IfOk result (λ s. EachCloses nobody (links_of s) (A.link_count links.old) (A.link_count links.new) (A.refusal_count links.old) (A.refusal_count links.new)) }
 {
     accepted_proofs_are_sound();

@@ -1,7 +1,8 @@
 //! `solve`: runs a coordinator and its workers in one process, which decide a formula.
 
 ghost use Rattle.std.specs.Prelude.{ℕ, List, ◌≤◌, ◌+◌, ◌*◌, IfOk, option_map};
-ghost use Rattle.dimacs.specs.text.Parser.{parse, GivesFormula};
+ghost use Rattle.dimacs.specs.logic.Limits.{written};
+ghost use Rattle.dimacs.specs.text.Parser.{parse, parse_within, GivesFormula};
 ghost use Rattle.command_line.specs.Options.{AreOptions};
 ghost use Rattle.runs.specs.Accounts.{OnceEach};
 ghost use Rattle.node_main.specs.RunCalls.{WasRun};
@@ -9,10 +10,10 @@ ghost use Rattle.node_main.specs.SolveReports.{Solves};
 ghost use Rattle.node_main.specs.Truth.{IsTrueReport};
 
 use crate::plans::coordinator_plan;
-use crate::start::{Start, begin};
+use crate::start::{Start, begin_within};
 use crate::verdict_report::decided;
 use command_line::Options;
-use dimacs::{DimacsFault, Formula};
+use dimacs::{DimacsFault, Formula, Limits};
 use links::Links;
 use lrat_check::accepted_proofs_are_sound;
 use reports::Report;
@@ -28,8 +29,8 @@ pub fn run_solve<L: Links>(
     links: &mut L,
 ) -> Result<Report, AllocError>
     requires { AreOptions options.now }
-    ensures report { IfOk result (Solves input.now (option_map (λ t. t.now) cubes.entry) options.now) }
-    ensures truth { IfOk result (IsTrueReport input.now) }
+    ensures report { IfOk result (Solves written input.now (option_map (λ t. t.now) cubes.entry) options.now) }
+    ensures truth { IfOk result (IsTrueReport written input.now) }
     ensures used { IfOk result (WasRun (L.call_count links.old) (L.call_count links.new)) }
     ensures most { L.call_count links.new ≤ L.call_count links.old + 8076000000 * options.now.workers }
     ensures refusals { L.refusal_count links.new ≤ L.refusal_count links.old + options.now.workers }
@@ -38,7 +39,9 @@ pub fn run_solve<L: Links>(
     run_solve_of(alloc, dimacs::read(alloc, input), cubes, options, links)
 }
 
-/// Decides a formula as `run_solve` does, for an input that was read already, or has a fault.
+/// Splits and decides a formula by a coordinator and its workers over links between them, for an
+/// input that was read already within the written limits, or has a fault. The error stands for the
+/// report `c no memory`, status 1.
 pub fn run_solve_of<L: Links>(
     alloc: Global,
     found: Result<Formula, DimacsFault>,
@@ -47,15 +50,36 @@ pub fn run_solve_of<L: Links>(
     links: &mut L,
 ) -> Result<Report, AllocError>
     requires { AreOptions options.now }
-    ensures report { (input : List ℕ) → GivesFormula found (parse input) → IfOk result (Solves input (option_map (λ t. t.now) cubes.entry) options.now) }
-    ensures truth { (input : List ℕ) → GivesFormula found (parse input) → IfOk result (IsTrueReport input) }
+    ensures report { (input : List ℕ) → GivesFormula found (parse input) → IfOk result (Solves written input (option_map (λ t. t.now) cubes.entry) options.now) }
+    ensures truth { (input : List ℕ) → GivesFormula found (parse input) → IfOk result (IsTrueReport written input) }
+    ensures used { IfOk result (WasRun (L.call_count links.old) (L.call_count links.new)) }
+    ensures most { L.call_count links.new ≤ L.call_count links.old + 8076000000 * options.now.workers }
+    ensures refusals { L.refusal_count links.new ≤ L.refusal_count links.old + options.now.workers }
+    ensures each { OnceEach (L.refused_at links.old) (L.refused_at links.new) }
+{
+    run_solve_within(alloc, found, Limits::written(), cubes, options, links)
+}
+
+/// Decides a formula as `run_solve` does, for an input that was read already within these limits,
+/// or has a fault. The cubes are read within the same limits.
+pub fn run_solve_within<L: Links>(
+    alloc: Global,
+    found: Result<Formula, DimacsFault>,
+    limits: Limits,
+    cubes: Option<&[u8]>,
+    options: &Options,
+    links: &mut L,
+) -> Result<Report, AllocError>
+    requires { AreOptions options.now }
+    ensures report { (input : List ℕ) → GivesFormula found (parse_within limits input) → IfOk result (Solves limits input (option_map (λ t. t.now) cubes.entry) options.now) }
+    ensures truth { (input : List ℕ) → GivesFormula found (parse_within limits input) → IfOk result (IsTrueReport limits input) }
     ensures used { IfOk result (WasRun (L.call_count links.old) (L.call_count links.new)) }
     ensures most { L.call_count links.new ≤ L.call_count links.old + 8076000000 * options.now.workers }
     ensures refusals { L.refusal_count links.new ≤ L.refusal_count links.old + options.now.workers }
     ensures each { OnceEach (L.refused_at links.old) (L.refused_at links.new) }
 {
     accepted_proofs_are_sound();
-    let (opened, tree) = match begin(alloc, found, cubes, options) {
+    let (opened, tree) = match begin_within(alloc, found, limits, cubes, options) {
         Ok(Start::With(opened, tree)) => (opened, tree),
         Ok(Start::Refused(report)) => return Ok(report),
         Err(error) => return Err(error),

@@ -1,6 +1,7 @@
 //! `work`: runs one worker, whose coordinator is in another process.
 
 ghost use Rattle.std.specs.Prelude.{ℕ, List, ◌≤◌, ◌+◌, IfOk};
+ghost use Rattle.dimacs.specs.logic.Limits.{written};
 ghost use Rattle.dimacs.specs.text.Parser.{parse, GivesFormula};
 ghost use Rattle.command_line.specs.Options.{AreOptions};
 ghost use Rattle.runs.specs.Accounts.{OnceEach};
@@ -27,8 +28,8 @@ pub fn run_work<L: Links>(
     links: &mut L,
 ) -> Result<Report, AllocError>
     requires { AreOptions options.now }
-    ensures report { IfOk result (Works input.now options.now) }
-    ensures truth { IfOk result (IsTrueReport input.now) }
+    ensures report { IfOk result (Works written input.now options.now) }
+    ensures truth { IfOk result (IsTrueReport written input.now) }
     ensures used { IfOk result (WasRun (L.call_count links.old) (L.call_count links.new)) }
     ensures most { L.call_count links.new ≤ L.call_count links.old + 4038000001 }
     ensures refusals { L.refusal_count links.new ≤ L.refusal_count links.old + 1 }
@@ -37,7 +38,8 @@ pub fn run_work<L: Links>(
     run_work_of(alloc, dimacs::read(alloc, input), options, links)
 }
 
-/// Runs a worker as `run_work` does, for an input that was read already, or has a fault.
+/// Runs a worker over its link until it holds a verdict, and reports the verdict, for an input that
+/// was read already, or has a fault. The error stands for the report `c no memory`, status 1.
 pub fn run_work_of<L: Links>(
     alloc: Global,
     found: Result<Formula, DimacsFault>,
@@ -45,8 +47,8 @@ pub fn run_work_of<L: Links>(
     links: &mut L,
 ) -> Result<Report, AllocError>
     requires { AreOptions options.now }
-    ensures report { (input : List ℕ) → GivesFormula found (parse input) → IfOk result (Works input options.now) }
-    ensures truth { (input : List ℕ) → GivesFormula found (parse input) → IfOk result (IsTrueReport input) }
+    ensures report { (input : List ℕ) → GivesFormula found (parse input) → IfOk result (Works written input options.now) }
+    ensures truth { (input : List ℕ) → GivesFormula found (parse input) → IfOk result (IsTrueReport written input) }
     ensures used { IfOk result (WasRun (L.call_count links.old) (L.call_count links.new)) }
     ensures most { L.call_count links.new ≤ L.call_count links.old + 4038000001 }
     ensures refusals { L.refusal_count links.new ≤ L.refusal_count links.old + 1 }

@@ -9,7 +9,7 @@ use Rattle.proof_lift.specs.View.{image_of_lemma, lemmas_of}
 use Rattle.proof_lift.specs.declared.images.Image.{Image}
 use Rattle.proof_lift.specs.declared.images.Image.TheVariants.{None as NoImage, Gone as GoneImage, Kept as KeptImage}
 use Rattle.proof_lift.specs.declared.images.Images.{Images}
-use Rattle.proof_lift.specs.declared.lemma_images.Lemmas.{Lemmas}
+use Rattle.proof_lift.specs.declared.lemma_images.LemmaImages.{LemmaImages}
 use Rattle.proof_lift.specs.declared.lemma_images.LogLemma.{LogLemma}
 
 -- the image that a look-up's answer stands for
@@ -32,5 +32,5 @@ abbrev pub image_in_maps : List (BTreeMap ℕ (Option LogLemma)) → ClauseImage
 image_in_maps maps n = image_in_map (slice_get maps (n % 8192)) n
 
 -- the images of the live lemmas in the code's maps
-abbrev pub lemma_images_of : Lemmas → ClauseImages
+abbrev pub lemma_images_of : LemmaImages → ClauseImages
 lemma_images_of x = image_in_maps x.maps.items

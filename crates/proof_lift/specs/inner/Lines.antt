@@ -1,6 +1,7 @@
 -- A lifter as a taker of lines: the relations that `TakesLines` of lrat_text asks for.
 use Rattle.std.specs.Prelude.{◌≡◌, ◌⊎◌, ℕ, ◌+◌, List, ◌++◌, Err, length}
-use Rattle.lrat_text.specs.Parser.{step_in}
+use Rattle.lrat_text.specs.Log.{log_top}
+use Rattle.lrat_text.specs.Parser.{step_within}
 use Rattle.lrat_check.specs.ProofFaults.{no_memory}
 use Rattle.lrat_check.specs.declared.line_checker.CheckFault.{CheckFault}
 use Rattle.proof_lift.specs.LiftedText.{LiftState, LiftResult, prepend, lift_line}
@@ -12,12 +13,12 @@ use Rattle.proof_lift.specs.declared.line_lifter.LineLifter.{LineLifter}
 -- the line has no fault: whatever follows, these bytes are written and lifting goes on in the new state
 abbrev pub LineLifts : StepLifter → ℕ → List ℕ → List ℕ → StepLifter → Type 0
 LineLifts old line text appended new =
-    (later : LiftState → LiftResult) → lift_line old.cube.items (length old.images.formula.clauses) (state_of old) line (step_in text) later ≡ prepend appended (later (state_of new))
+    (later : LiftState → LiftResult) → lift_line old.cube.items (length old.images.formula.clauses) (state_of old) line (step_within (log_top old.images.formula) text) later ≡ prepend appended (later (state_of new))
 
 -- the line has this fault, whatever follows
 abbrev pub LineFails : StepLifter → ℕ → List ℕ → CheckFault → Type 0
 LineFails old line text fault =
-    (later : LiftState → LiftResult) → lift_line old.cube.items (length old.images.formula.clauses) (state_of old) line (step_in text) later ≡ Err fault
+    (later : LiftState → LiftResult) → lift_line old.cube.items (length old.images.formula.clauses) (state_of old) line (step_within (log_top old.images.formula) text) later ≡ Err fault
 
 -- the lifter may take a line: it is ready for the line of the next number
 abbrev pub MayTake : LineLifter → Type 0

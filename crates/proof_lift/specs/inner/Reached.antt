@@ -35,13 +35,15 @@ Shifts old new Conflict = Unit {0}
 Shifts old new Moved = (unmarked new.truth.items < unmarked old.truth.items) × (vec_len new.truth ≡ vec_len old.truth)
 Shifts old new Still = new ≡ old
 
--- the result of a visit to the clauses of these numbers
+-- `ComesTo T A numbers old new look`: a visit to the clauses of these numbers, from the state `old`
+-- to `new`, had the result `look`: a conflict, a further unit literal (Moved), or none (Still)
 abbrev pub ComesTo : ClauseImages → Assumed → List ℕ → Reached → Reached → Look → Type 0
 ComesTo T A numbers old new Conflict = Conflicts T A new.hints.items
 ComesTo T A numbers old new Moved = IsReached T A new
 ComesTo T A numbers old new Still = AreSettled T (true_in old) numbers
 
--- propagation has ended: with a false clause if the value is true; else no clause of these numbers is false or unit
+-- `EndsAs T A numbers r found`: propagation has ended in the state r: with a false clause if
+-- `found`; else no clause of these numbers is false or unit
 abbrev pub EndsAs : ClauseImages → Assumed → List ℕ → Reached → Bool → Type 0
 EndsAs T A numbers r true = Conflicts T A r.hints.items
 EndsAs T A numbers r false = IsReached T A r × AreSettled T (true_in r) numbers

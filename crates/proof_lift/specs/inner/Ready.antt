@@ -12,23 +12,23 @@ use Rattle.proof_lift.specs.inner.Tables.{marked, AllBelow}
 use Rattle.proof_lift.specs.inner.Walks.{ImagesFit}
 use Rattle.proof_lift.specs.declared.step_lifter.StepLifter.{StepLifter}
 
--- the numbers and the literals of the images are within the limits of a text
-abbrev pub ImagesSmall : ClauseImages → Type 0
-ImagesSmall T = (n i : ℕ) (D : Clause) → T n ≡ Some (Kept i D) → IsClauseNumber i × All (IsWithin 2000000) D
+-- the numbers and the literals of the images are within the limits of a text with variables up to most
+abbrev pub ImagesSmall : ℕ → ClauseImages → Type 0
+ImagesSmall most T = (n i : ℕ) (D : Clause) → T n ≡ Some (Kept i D) → IsClauseNumber i × All (IsWithin most) D
 
 -- the state between two steps that the lifter's fields stand for
 abbrev pub state_of : StepLifter → LiftState
 state_of x = record { stands = images_of x.images; top = x.top; own = x.own; closed = x.closed }
 
--- images and cube have cells in the tables, and their literals and numbers are within the limits of a text
+-- images and cube have cells in the tables, and their literals and numbers are within the limits of a log over any base
 pub record AllFits (x : StepLifter) : Type 0 where
   pub marks_fit : ImagesFit (vec_len x.scratch.marks) (images_of x.images)
   pub used_fit : ImagesFit (vec_len x.scratch.used) (images_of x.images)
   pub cube_marks : FitsTable (vec_len x.scratch.marks) x.cube.items
   pub cube_used : FitsTable (vec_len x.scratch.used) x.cube.items
-  pub small : ImagesSmall (images_of x.images)
+  pub small : ImagesSmall 199999999 (images_of x.images)
   pub last : (n i : ℕ) (D : Clause) → images_of x.images n ≡ Some (Kept i D) → i ≤ x.own
-  pub cube : All (IsWithin 2000000) x.cube.items
+  pub cube : All (IsWithin 199999999) x.cube.items
   pub below : x.own ≤ x.top
   pub room : x.top < 2 ^ 48
   pub lemmas : length x.images.live.items ≤ x.top + 1

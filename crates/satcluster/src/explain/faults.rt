@@ -3,7 +3,7 @@
 use crate::explain::paths::{Paths, faulty};
 use crate::explain::sentence::{name_of, tell, tell_of};
 use crate::explain::view::{View, view_of};
-use explanations::{Fault, File, Subject, Unit, fault, in_command, look_of, shown};
+use explanations::{Fault, File, Subject, Unit, explain_fault, in_command, look_of, shown};
 use std::alloc::Global;
 use std::rt::Runtime;
 use std::str::from_utf8;
@@ -11,7 +11,8 @@ use std::str::from_utf8;
 /// How many bytes of a line are shown at most.
 const WIDTH: usize = 60;
 
-/// Tells a line of the file, cut after 60 bytes, if it is not empty and has only printable ASCII characters.
+/// Prints the line of the file that has the fault, cut after 60 bytes, if it is not empty and has
+/// only printable ASCII characters.
 fn tell_line<R: Runtime>(rt: &R, line: &[u8]) {
     let is_cut = line.len() > WIDTH;
     let text = &line[..WIDTH.min(line.len())];
@@ -38,7 +39,8 @@ fn is_number(token: &str) -> bool {
     are_digits && (token == "0" || !(digits.is_empty() || digits.starts_with('0')))
 }
 
-/// Tells the first token of a line that is no number, if there is one. A line may begin with `a `, which is passed over.
+/// Prints the first token of a line that is no number, if there is one. The letter `a` at the
+/// line's beginning, which begins a cube, is passed over.
 fn tell_token<R: Runtime>(rt: &R, line: &[u8]) {
     let Ok(text) = from_utf8(line) else {
         return;
@@ -64,7 +66,8 @@ fn is_of_token(subject: Subject, found: &Fault) -> bool {
     }
 }
 
-/// Answers as what a file is read: a joined one as an answer if its first byte begins an answer's line, any other as `subject`.
+/// Answers as what kind a file is read: a file that is joined, as a solver's answer if its first
+/// byte begins an answer's line; any other, as `subject`.
 fn joined_subject(file: File, subject: Subject, head: &[u8]) -> Subject {
     match (file, head.first()) {
         (File::Joined(_), Some(b'c' | b's' | b'v')) => Subject::Answer,
@@ -77,7 +80,8 @@ fn is_early(found: &Fault) -> bool {
     found.number <= 3 || found.at <= 2
 }
 
-/// Answers the line by which the kind of the file is found; none for a fault that has nothing to do with its form.
+/// Answers the line from which the kind of the file is guessed; none if the fault has nothing to do
+/// with the file's form.
 fn telling_line<'a>(view: &'a View, found: &Fault) -> &'a [u8] {
     match found.unit {
         Unit::Line if found.number > 2 => &[],
@@ -85,14 +89,15 @@ fn telling_line<'a>(view: &'a View, found: &Fault) -> &'a [u8] {
     }
 }
 
-/// Tells what a fault means, where it is, and what to do. If the command has no such file, or the file no such fault, nothing is told.
-pub(crate) fn explain_fault<R: Runtime + AllocGlobal>(rt: &R, paths: &Paths, found: &Fault) {
+/// Prints what a fault means, where it is, and what to do. If the command has no such file, or the
+/// file no such fault, nothing is printed.
+pub(crate) fn tell_fault<R: Runtime + AllocGlobal>(rt: &R, paths: &Paths, found: &Fault) {
     let Some((path, subject)) = faulty(paths, found.file) else {
         return;
     };
     let view = view_of(rt, path, found);
     let subject = joined_subject(found.file, subject, view.head.as_slice());
-    let Some(told) = fault(subject, found.number) else {
+    let Some(told) = explain_fault(subject, found.number) else {
         return;
     };
     tell_place(rt, path, found, told.sentence);
@@ -109,7 +114,7 @@ pub(crate) fn explain_fault<R: Runtime + AllocGlobal>(rt: &R, paths: &Paths, fou
     }
 }
 
-/// Tells in which line or step of a file a fault is, and what it means.
+/// Prints in which line or step of a file a fault is, and what it means.
 fn tell_place<R: Runtime>(rt: &R, path: &str, found: &Fault, sentence: &str) {
     let name = name_of(path);
     let at = found.at;

@@ -37,7 +37,7 @@ impl<'a> Paths<'a> {
         }
     }
 
-    /// These files, and the third file that the command reads besides.
+    /// Adds the third file that the command reads: a proof, an answer, or the like.
     fn reading(self, read: &'a str, read_as: Subject) -> Paths<'a> {
         let Paths {
             input,

@@ -64,7 +64,7 @@ fn is_some_same<R: Runtime>(rt: &R, path: Option<&str>, written: &str) -> bool {
     }
 }
 
-/// Answers why a file cannot be written.
+/// Answers why a write to a file has failed: its path is a folder, its folder is missing, ..
 fn why_unwritten<R: Runtime>(rt: &R, paths: &Paths, written: &str) -> Reason {
     if is_read(rt, paths, written) {
         return Reason::Read;

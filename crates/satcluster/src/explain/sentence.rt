@@ -32,13 +32,14 @@ impl Display for Filled<'_> {
     }
 }
 
-/// Prints a sentence on standard error, in which a name replaces each mark. A write that fails is ignored.
+/// Prints a sentence on standard error, in which `name` replaces each `mark`, such as `FILE`. A
+/// write that fails is ignored.
 pub(crate) fn tell<R: Runtime>(rt: &R, text: &str, mark: &'static str, name: &str) {
     let filled = Filled { text, mark, name };
     let _ = eprintln!(rt; "c {filled}");
 }
 
-/// Tells what a fault or a refusal means and what to do, both of the file at a path.
+/// Prints what a fault or a refusal means and what to do, with the path of its file put in.
 pub(crate) fn tell_of<R: Runtime>(rt: &R, told: Told, path: &str) {
     tell(rt, told.sentence, "FILE", name_of(path));
     tell(rt, told.remedy, "FILE", in_command(path));

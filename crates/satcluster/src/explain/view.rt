@@ -42,13 +42,13 @@ impl View {
     }
 
     /// Keeps the first bytes of the file, which are those of its first piece.
-    fn begin(&mut self, piece: &[u8]) -> Result<(), AllocError> {
+    fn keep_head(&mut self, piece: &[u8]) -> Result<(), AllocError> {
         let len = piece.len().min(HEAD);
         self.head.extend_from_slice(&piece[..len])
     }
 
     /// Takes the next piece of the file, and answers whether the line has ended.
-    fn take(&mut self, piece: &[u8]) -> Result<bool, AllocError> {
+    fn take_piece(&mut self, piece: &[u8]) -> Result<bool, AllocError> {
         for byte in piece {
             if *byte == b'\n' {
                 if self.before == 0 {
@@ -83,8 +83,8 @@ fn look_into<R: Runtime + AllocGlobal>(
 ) -> Result<(), Refusal> {
     let mut pieces = open(rt, path, Refusal::Input)?;
     let first = pieces.next()?;
-    view.begin(first).map_err(no_memory)?;
-    if view.take(first).map_err(no_memory)? {
+    view.keep_head(first).map_err(no_memory)?;
+    if view.take_piece(first).map_err(no_memory)? {
         return Ok(());
     }
     if let Unit::Step = found.unit {
@@ -92,7 +92,7 @@ fn look_into<R: Runtime + AllocGlobal>(
     }
     for _ in 0..u64::MAX {
         let piece = pieces.next()?;
-        if piece.is_empty() || view.take(piece).map_err(no_memory)? {
+        if piece.is_empty() || view.take_piece(piece).map_err(no_memory)? {
             return Ok(());
         }
     }

@@ -29,7 +29,8 @@ fn help_of<R: Runtime + AllocGlobal>(
     }
 }
 
-/// Whether none of the first `count` words is refused, by themselves or with the next one, which may be the value of the last.
+/// Whether the parser refuses none of the first `count` words, by themselves or with the next one,
+/// which may be the value of the last.
 fn are_taken<R: Runtime + AllocGlobal>(
     rt: &R,
     words: &[&str],
@@ -41,8 +42,8 @@ fn are_taken<R: Runtime + AllocGlobal>(
     Ok(count < words.len() && help_of(rt, words, count + 1)?.is_some())
 }
 
-/// Answers how many words are taken before one is refused. It is found by halves, since there may be many words, and each question reads
-/// them all.
+/// Answers how many words the parser takes before one is refused. It is found by bisection, since
+/// there may be many words, and each question reads them all.
 fn taken<R: Runtime + AllocGlobal>(rt: &R, words: &[&str]) -> Result<usize, AllocError> {
     let mut low = 0usize;
     let mut high = words.len();
@@ -104,7 +105,7 @@ const NOTHING: Right<'static> = Right {
     usage: None,
 };
 
-/// Tells a line of a help, if there is one.
+/// Prints a line of a help text, if there is one.
 fn tell_line<R: Runtime>(rt: &R, line: Option<&str>) {
     if let Some(line) = line {
         tell(rt, line, "WORD", "WORD");
@@ -120,7 +121,8 @@ fn tell_reason<R: Runtime>(rt: &R, reason: Reason, word: &str, right: Right<'_>)
     tell(rt, told.remedy, "WORD", "WORD");
 }
 
-/// Answers why words are refused of which none is refused by itself.
+/// Answers why words are refused although none is refused by itself: no command is named, or they
+/// do not go together.
 fn reason_of_none(words: &[&str]) -> Reason {
     if words.len() < 2 {
         Reason::NoCommand

@@ -26,11 +26,11 @@ pub(crate) struct Tried {
 
 /// A call that can be made again.
 pub(crate) trait Call {
-    /// Makes it.
+    /// Makes the call once; it may be made again.
     fn make(&mut self) -> Answer;
 }
 
-/// A packed text that was made.
+/// The answer of a call that made a packed text, which is unpacked to be printed.
 pub(crate) fn made(alloc: Global, text: &PackedText) -> Answer {
     match text.to_text(alloc) {
         Ok(text) => Answer::Made(text),

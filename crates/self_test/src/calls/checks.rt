@@ -24,7 +24,7 @@ struct Fragment {
     base: Base,
 }
 
-/// The answer of a checker, in words.
+/// The answer of a checker, in words that are printed.
 pub(crate) fn answer_of(found: Result<(), CheckFault>) -> Answer {
     match found {
         Ok(()) => Answer::Said("accepted\n"),
@@ -34,23 +34,27 @@ pub(crate) fn answer_of(found: Result<(), CheckFault>) -> Answer {
 }
 
 impl Call for Proof {
+    /// Checks the proof.
     fn make(&mut self) -> Answer {
         answer_of(check(self.alloc, &self.formula, GROUPS))
     }
 }
 
 impl Call for Fragment {
+    /// Checks whether the fragment closes the cube -1.
     fn make(&mut self) -> Answer {
         let cube = [Lit::negative(Var::new(1))];
         answer_of(check_fragment(self.alloc, &self.base, &cube, RIGHT_WITH_DELETION))
     }
 }
 
+/// Checks a proof of four clauses, twice if memory was wanting.
 pub(crate) fn checked(alloc: Global) -> Option<Tried> {
     let formula = read(alloc, FOUR).ok()?;
     Some(try_twice(&mut Proof { alloc, formula }))
 }
 
+/// Checks a fragment over four clauses, twice if memory was wanting.
 pub(crate) fn closed(alloc: Global) -> Option<Tried> {
     let formula = read(alloc, FOUR).ok()?;
     let base = Base::of(alloc, &formula).ok()?;

@@ -41,7 +41,7 @@ impl Drop for Fragments {
     }
 }
 
-/// Whether each fragment closes the leaf at its place.
+/// Tests whether each fragment closes the leaf at its place, as a join requires.
 fn all_close(
     alloc: Global,
     base: &Base,
@@ -60,7 +60,7 @@ fn all_close(
     Ok(())
 }
 
-/// The joined text of fragments that close all leaves.
+/// Joins fragments that close all leaves of a tree, and answers the text.
 fn joined(alloc: Global, formula: &Formula, tree: &Tree, fragments: &[Vec<u8>]) -> Answer {
     let Ok(units) = preamble(alloc, formula) else {
         return Answer::NoMemory;
@@ -82,18 +82,20 @@ fn joined(alloc: Global, formula: &Formula, tree: &Tree, fragments: &[Vec<u8>]) 
 }
 
 impl Call for Fragments {
+    /// Joins the fragments.
     fn make(&mut self) -> Answer {
         joined(self.alloc, &self.formula, &self.tree, &self.texts)
     }
 }
 
-/// The tree of the leaves 1 and -1.
+/// Makes the tree of the two leaves 1 and -1.
 fn halves(alloc: Global) -> Option<Tree> {
     let mut tree = Tree::leaf(alloc).ok()?;
     tree.split(0, Var::new(1)).ok()?;
     Some(tree)
 }
 
+/// Joins a fragment of the left leaf and this one of the right leaf, twice if memory was wanting.
 fn joined_of(alloc: Global, right: &[u8]) -> Option<Tried> {
     let formula = read(alloc, FOUR).ok()?;
     let tree = halves(alloc)?;
@@ -109,10 +111,12 @@ fn joined_of(alloc: Global, right: &[u8]) -> Option<Tried> {
     Some(try_twice(&mut fragments))
 }
 
+/// Joins two fragments that have additions alone.
 pub(crate) fn joined_lines(alloc: Global) -> Option<Tried> {
     joined_of(alloc, RIGHT)
 }
 
+/// Joins two fragments of which one has a deletion.
 pub(crate) fn joined_deletions(alloc: Global) -> Option<Tried> {
     joined_of(alloc, RIGHT_WITH_DELETION)
 }

@@ -17,6 +17,7 @@ struct Long {
 }
 
 impl Call for Long {
+    /// Trims the fragment.
     fn make(&mut self) -> Answer {
         let Ok(fragment) = PackedText::of(self.alloc, self.fragment.as_str().as_bytes()) else {
             return Answer::NoMemory;
@@ -39,6 +40,7 @@ fn with_idle(alloc: Global) -> Result<String, AllocError> {
     Ok(text)
 }
 
+/// Trims a fragment of 20,002 lemmas, of which two are needed; twice if memory was wanting.
 pub(crate) fn trimmed(alloc: Global) -> Option<Tried> {
     let formula = read(alloc, FOUR).ok()?;
     let base = Base::of(alloc, &formula).ok()?;

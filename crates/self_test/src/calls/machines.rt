@@ -1,5 +1,5 @@
-//! The frames that complete a proof at a worker, and close the last leaf at a coordinator; clauses that are added at nodes that hold a
-//! verdict.
+//! The frames that complete a proof at a worker, and close the last leaf at a coordinator; clauses
+//! that are added at nodes that hold a verdict.
 
 use super::call::{Answer, Call, Tried, try_twice};
 use super::fragment_join::{LEFT, RIGHT_WITH_DELETION};
@@ -17,16 +17,19 @@ use worker_core::Worker;
 /// A proof of the four clauses, in two parts.
 const PROOF: &[u8] = b"5 2 0 1 2 0\n6 0 5 3 4 0\n";
 
+/// The first part of the proof; it ends inside a line.
 const FIRST: &[u8] = b"5 2 0 1 2 0\n6 0 5";
 
+/// The second and last part of the proof.
 const LAST: &[u8] = b" 3 4 0\n";
 
 /// The fragments of both leaves, joined.
 const JOINED: &[u8] = b"5 -1 0 2 4 0\n6 2 0 1 2 0\n7 1 2 0 1 0\n7 d 7 0\n8 1 0 6 3 0\n9 0 5 8 0\n";
 
-/// The proof, and the joined one, if there is a fifth clause after the four.
+/// The proof, if there is a fifth clause after the four.
 const RAISED_PROOF: &[u8] = b"6 2 0 1 2 0\n7 0 6 3 4 0\n";
 
+/// The fragments of both leaves, joined, if there is a fifth clause after the four.
 const RAISED_JOINED: &[u8] =
     b"6 -1 0 2 4 0\n7 2 0 1 2 0\n8 1 2 0 1 0\n8 d 8 0\n9 1 0 7 3 0\n10 0 6 9 0\n";
 
@@ -43,6 +46,7 @@ impl Drop for AtWorker {
 }
 
 impl AtWorker {
+    /// Hands over the worker.
     fn into_worker(self) -> Worker {
         let AtWorker { worker, last: _ } = self;
         worker
@@ -65,6 +69,7 @@ impl Drop for AtCoordinator {
 }
 
 impl AtCoordinator {
+    /// Hands over the coordinator.
     fn into_coordinator(self) -> Coordinator {
         let AtCoordinator {
             coordinator,
@@ -119,7 +124,7 @@ enum Held {
     Values(&'static [bool]),
 }
 
-/// Whether this is held.
+/// Whether a verdict is the expected text of a proof, or the expected assignment.
 fn holds(verdict: &Verdict, held: Held) -> bool {
     match (verdict, held) {
         (Verdict::Proof(text), Held::Text(wanted)) => text.as_plain() == Some(wanted),
@@ -151,6 +156,7 @@ fn answer_of(reaction: Reaction, verdict: &Verdict, wanted: &[u8]) -> Answer {
 }
 
 impl Call for AtWorker {
+    /// Delivers the last part of the proof to the worker.
     fn make(&mut self) -> Answer {
         let reaction = self.worker.deliver(&self.last);
         answer_of(reaction, self.worker.verdict(), PROOF)
@@ -158,6 +164,7 @@ impl Call for AtWorker {
 }
 
 impl Call for AtCoordinator {
+    /// Delivers the piece that closes the last leaf to the coordinator.
     fn make(&mut self) -> Answer {
         let reaction = self.coordinator.deliver(&self.last);
         answer_of(reaction, self.coordinator.verdict(), JOINED)
@@ -165,6 +172,7 @@ impl Call for AtCoordinator {
 }
 
 impl Call for ExtendedWorker {
+    /// Adds the clause to the formula of the worker.
     fn make(&mut self) -> Answer {
         let reaction = self.worker.extend(&self.extension, 2);
         kept_of(reaction, self.worker.verdict(), self.old, self.new)
@@ -172,13 +180,14 @@ impl Call for ExtendedWorker {
 }
 
 impl Call for ExtendedCoordinator {
+    /// Adds the clause to the formula of the coordinator.
     fn make(&mut self) -> Answer {
         let reaction = self.coordinator.extend(&self.extension, 2);
         kept_of(reaction, self.coordinator.verdict(), self.old, self.new)
     }
 }
 
-/// A part of the proof in session 1.
+/// Makes the Part frame of session 1 with these bytes of the proof, which begin at this offset.
 fn part(alloc: Global, offset: u32, bytes: &[u8]) -> Option<Frame> {
     if bytes.is_empty() || bytes.len() > Chunk::LONGEST {
         return None;
@@ -197,7 +206,7 @@ fn worker_of(alloc: Global, text: &[u8]) -> Option<Worker> {
     Worker::new(alloc, formula, WorkerNumber::new(1), 1).ok()
 }
 
-/// Gives a worker a frame. `None` if the reaction is another one than this.
+/// Delivers a frame to a worker. `None` if the reaction is another one than `wanted`.
 fn give(worker: &mut Worker, frame: &Frame, wanted: Reaction) -> Option<()> {
     if worker.deliver(frame) == wanted {
         Some(())
@@ -238,6 +247,7 @@ fn with_proof(alloc: Global) -> Option<Worker> {
     Some(at.into_worker())
 }
 
+/// Completes a proof at a worker, twice if memory was wanting.
 pub(crate) fn last_part(alloc: Global) -> Option<Tried> {
     Some(try_twice(&mut before_the_last_part(alloc)?))
 }
@@ -258,6 +268,7 @@ fn clause_not_three(alloc: Global) -> Result<Extension, AllocError> {
     Ok(builder.finish_extension(3))
 }
 
+/// Adds a clause at a worker that holds a proof, twice if memory was wanting.
 pub(crate) fn extended_proof(alloc: Global) -> Option<Tried> {
     let worker = with_proof(alloc)?;
     let extension = clause_three(alloc).ok()?;
@@ -283,6 +294,7 @@ fn with_assignment(alloc: Global) -> Option<Worker> {
     Some(worker)
 }
 
+/// Adds a clause at a worker that holds an assignment, twice if memory was wanting.
 pub(crate) fn extended_assignment(alloc: Global) -> Option<Tried> {
     let worker = with_assignment(alloc)?;
     let extension = clause_not_three(alloc).ok()?;
@@ -294,7 +306,7 @@ pub(crate) fn extended_assignment(alloc: Global) -> Option<Tried> {
     }))
 }
 
-/// The attempt of worker 1 at a job of session 1.
+/// The attempt of worker 1, in its incarnation 1, at a job of session 1.
 fn attempt(job: u64) -> Attempt {
     Attempt {
         session: 1,
@@ -304,7 +316,7 @@ fn attempt(job: u64) -> Attempt {
     }
 }
 
-/// The frame that the fragment of a job is done, of 1 to 4,000 bytes.
+/// Makes the Done frame of a job, which announces its fragment of 1 to 4,000 bytes.
 fn done(job: u64, fragment: &[u8]) -> Option<Frame> {
     if fragment.is_empty() || fragment.len() > Chunk::LONGEST {
         return None;
@@ -316,7 +328,7 @@ fn done(job: u64, fragment: &[u8]) -> Option<Frame> {
     })
 }
 
-/// The frame with the whole fragment, in one piece.
+/// Makes the Piece frame of a job with its whole fragment.
 fn piece(alloc: Global, job: u64, fragment: &[u8]) -> Option<Frame> {
     if fragment.is_empty() || fragment.len() > Chunk::LONGEST {
         return None;
@@ -328,7 +340,7 @@ fn piece(alloc: Global, job: u64, fragment: &[u8]) -> Option<Frame> {
     })
 }
 
-/// Gives worker 1 its next job. `None` if memory was wanting.
+/// Polls the coordinator for worker 1, which gives that its next job. `None` if memory was wanting.
 fn hand_out(coordinator: &mut Coordinator) -> Option<()> {
     if coordinator.workers() < 1 {
         return None;
@@ -337,7 +349,8 @@ fn hand_out(coordinator: &mut Coordinator) -> Option<()> {
     Some(())
 }
 
-/// Lets a coordinator take a frame. `None` if memory was wanting.
+/// Delivers a frame to a coordinator. `None` if the coordinator does not take it, as for want of
+/// memory.
 fn take(coordinator: &mut Coordinator, frame: &Frame) -> Option<()> {
     match coordinator.deliver(frame) {
         Reaction::Taken => Some(()),
@@ -345,21 +358,23 @@ fn take(coordinator: &mut Coordinator, frame: &Frame) -> Option<()> {
     }
 }
 
-/// Gives worker 1 its next job, and takes the announcement of its fragment. `None` if memory was wanting.
+/// Gives worker 1 its next job, and delivers the Done that announces its fragment. `None` if memory
+/// was wanting.
 fn announce(coordinator: &mut Coordinator, job: u64, fragment: &[u8]) -> Option<()> {
     hand_out(coordinator)?;
     let done = done(job, fragment)?;
     take(coordinator, &done)
 }
 
-/// Closes the leaf of a job. `None` if memory was wanting.
+/// Closes the leaf of a job, by the job's Done and one Piece. `None` if memory was wanting.
 fn close(alloc: Global, coordinator: &mut Coordinator, job: u64, fragment: &[u8]) -> Option<()> {
     announce(coordinator, job, fragment)?;
     let piece = piece(alloc, job, fragment)?;
     take(coordinator, &piece)
 }
 
-/// A coordinator of one worker, and of the leaves 1 and -1.
+/// Makes a coordinator of one worker for every clause over two variables, split into the leaves 1
+/// and -1.
 fn of_two_leaves(alloc: Global) -> Option<Coordinator> {
     let formula = read(alloc, FOUR).ok()?;
     if formula.vars() < 1 {
@@ -392,10 +407,12 @@ fn with_join(alloc: Global) -> Option<Coordinator> {
     Some(at.into_coordinator())
 }
 
+/// Closes the last leaf at a coordinator, twice if memory was wanting.
 pub(crate) fn last_piece(alloc: Global) -> Option<Tried> {
     Some(try_twice(&mut before_the_last_piece(alloc)?))
 }
 
+/// Adds a clause at a coordinator that holds a joined proof, twice if memory was wanting.
 pub(crate) fn extended_join(alloc: Global) -> Option<Tried> {
     let coordinator = with_join(alloc)?;
     let extension = clause_three(alloc).ok()?;

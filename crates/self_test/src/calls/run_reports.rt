@@ -30,6 +30,7 @@ struct Run {
     is_split: bool,
 }
 
+/// Runs `solve` on an input over links in memory.
 fn solved(alloc: Global, input: &[u8], options: &Options) -> Result<Report, AllocError>
     requires { AreOptions options.now }
 {
@@ -37,7 +38,7 @@ fn solved(alloc: Global, input: &[u8], options: &Options) -> Result<Report, Allo
     run_solve(alloc, input, None, options, &mut links)
 }
 
-/// The text that was printed, or the proof if there is one.
+/// The answer of a run: its proof if it has one, and else the text that it prints.
 fn told(alloc: Global, report: Report) -> Answer {
     let Report { stdout, proof, .. } = report;
     match proof {
@@ -47,6 +48,7 @@ fn told(alloc: Global, report: Report) -> Answer {
 }
 
 impl Call for Run {
+    /// Runs `solve` by one worker, or by two if the formula is split.
     fn make(&mut self) -> Answer {
         let report = if self.is_split {
             solved(self.alloc, self.input, &TWO)
@@ -60,7 +62,7 @@ impl Call for Run {
     }
 }
 
-/// Two units, which one worker satisfies.
+/// Runs `solve` on two unit clauses, which one worker satisfies; twice if memory was wanting.
 pub(crate) fn units(alloc: Global) -> Option<Tried> {
     let mut run = Run {
         alloc,
@@ -70,7 +72,8 @@ pub(crate) fn units(alloc: Global) -> Option<Tried> {
     Some(try_twice(&mut run))
 }
 
-/// Every clause over two variables, which two workers refute.
+/// Runs `solve` on every clause over two variables, which two workers refute; twice if memory was
+/// wanting.
 pub(crate) fn four(alloc: Global) -> Option<Tried> {
     let mut run = Run {
         alloc,

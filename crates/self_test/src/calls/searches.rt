@@ -1,4 +1,4 @@
-//! Searches.
+//! Searches of small unsatisfiable formulas, alone or under a cube.
 
 ghost use Rattle.dimacs.specs.logic.Literal.{IsWithin};
 
@@ -23,10 +23,12 @@ struct Search {
     is_under: bool,
 }
 
+/// Searches without assumptions.
 fn search_alone(alloc: Global, base: &Base) -> Result<Outcome, AllocError> {
     solve(alloc, base, &[], LIMIT)
 }
 
+/// Searches under the cube of one literal.
 fn search_under(alloc: Global, base: &Base, literal: Lit) -> Result<Outcome, AllocError>
     requires { IsWithin base.now.vars literal }
 {
@@ -34,6 +36,7 @@ fn search_under(alloc: Global, base: &Base, literal: Lit) -> Result<Outcome, All
 }
 
 impl Call for Search {
+    /// Searches, under the cube 1 if `is_under`.
     fn make(&mut self) -> Answer {
         if self.base.vars() < 1 {
             return Answer::Said("no variable\n");
@@ -52,6 +55,8 @@ impl Call for Search {
     }
 }
 
+/// Searches in the formula of an input, under the cube 1 if `is_under`; twice if memory was
+/// wanting.
 fn searched(alloc: Global, input: &[u8], is_under: bool) -> Option<Tried> {
     let formula = read(alloc, input).ok()?;
     let base = Base::of(alloc, &formula).ok()?;
@@ -63,14 +68,17 @@ fn searched(alloc: Global, input: &[u8], is_under: bool) -> Option<Tried> {
     Some(try_twice(&mut search))
 }
 
+/// Searches the four clauses over two variables, which are unsatisfiable.
 pub(crate) fn four(alloc: Global) -> Option<Tried> {
     searched(alloc, FOUR, false)
 }
 
+/// Searches the eight clauses over three variables, which are unsatisfiable.
 pub(crate) fn eight(alloc: Global) -> Option<Tried> {
     searched(alloc, EIGHT, false)
 }
 
+/// Searches the four clauses over two variables under the cube 1.
 pub(crate) fn under_a_cube(alloc: Global) -> Option<Tried> {
     searched(alloc, FOUR, true)
 }

@@ -79,7 +79,7 @@ impl Peer {
         !self.sent.is_empty()
     }
 
-    /// It is polled for a frame, and sends it.
+    /// Polls the worker for a frame, and puts its bytes under way.
     fn send(&mut self) -> Result<(), AllocError> {
         let frame = self.worker.poll()?;
         let mut room = [0u8; LONGEST];
@@ -89,20 +89,22 @@ impl Peer {
         self.repeat()
     }
 
-    /// It sends its last frame once more.
+    /// Puts the worker's last frame under way once more, as a link that repeats would.
     pub(crate) fn repeat(&mut self) -> Result<(), AllocError> {
         self.sent.extend_from_slice(&self.last)?;
         Ok(())
     }
 
-    /// Takes bytes that come to it. Answers whether they are frames so far.
+    /// Reads bytes that the coordinator has sent into frames, which wait. Answers whether they are
+    /// frames so far.
     pub(crate) fn take(&mut self, bytes: &[u8]) -> bool {
         self.reader
             .feed(self.alloc, bytes, &mut self.waiting)
             .is_ok()
     }
 
-    /// It takes the first frame that waits, works once, and sends one.
+    /// Has the worker take the first frame that waits, work once, and send a frame, unless it is
+    /// silent or holds a verdict.
     pub(crate) fn turn(&mut self) -> Result<(), AllocError> {
         if self.waiting.is_empty() || self.is_silent || self.is_decided() {
             return Ok(());

@@ -60,7 +60,8 @@ impl Drop for RandomLinks<'_> {
 }
 
 impl<'a> RandomLinks<'a> {
-    /// No worker is linked yet. The first `disorder` steps are in disorder. An error is want of memory.
+    /// Links to which no worker is linked yet. The first `disorder` steps are in disorder. An error
+    /// is want of memory.
     pub(crate) fn new(
         alloc: Global,
         formula: &'a Formula,
@@ -145,7 +146,7 @@ impl<'a> RandomLinks<'a> {
         Ok(Some(Event::Linked { place }))
     }
 
-    /// A link ends.
+    /// Drops the worker at a place; the event is the end of its link.
     fn end(&mut self, place: u8) -> Option<Event>
         ensures { IfSome result (λ event. (most : ℕ) → IsWithin event most) }
     {
@@ -176,7 +177,7 @@ impl<'a> RandomLinks<'a> {
         None
     }
 
-    /// A worker works.
+    /// Gives the worker at a place a turn, which is no event.
     fn work(&mut self, place: u8) -> Result<Option<Event>, AllocError>
         ensures { IfOk result (λ found. IfSome found (λ event. (most : ℕ) → IsWithin event most)) }
     {
@@ -186,7 +187,8 @@ impl<'a> RandomLinks<'a> {
         Ok(None)
     }
 
-    /// While disorder lasts, something goes wrong.
+    /// While disorder lasts, something may go wrong at a place: the link ends, the worker falls
+    /// silent, or it repeats its last frame.
     fn go_wrong(&mut self, place: u8) -> Result<Option<Event>, AllocError>
         ensures { IfOk result (λ found. IfSome found (λ event. (most : ℕ) → IsWithin event most)) }
     {
@@ -206,7 +208,8 @@ impl<'a> RandomLinks<'a> {
         Ok(None)
     }
 
-    /// A random step.
+    /// Draws a random step and takes it: bytes come, a worker works, one links, something goes
+    /// wrong, or time passes. Answers its event, if it has one.
     fn draw(&mut self, room: &mut [u8]) -> Result<Option<Event>, AllocError>
         ensures { IfOk result (λ found. IfSome found (λ event. IsWithin event (length room.new))) }
     {
@@ -226,7 +229,8 @@ impl<'a> RandomLinks<'a> {
         }
     }
 
-    /// The next event: random steps until one has an event.
+    /// Answers the next event: takes random steps until one has an event, or the run has had its
+    /// `DRAWS` steps.
     fn next(&mut self, room: &mut [u8]) -> Event
         ensures { IsWithin result (length room.new) }
     {
@@ -247,6 +251,7 @@ impl<'a> RandomLinks<'a> {
 }
 
 impl EventCarrier for RandomLinks<'_> {
+    /// Answers the next random event, with the tick of the simulated clock.
     fn await_any(&mut self, room: &mut [u8]) -> Arrival
         ensures { IsWithin result.event (length room.new) }
     {
@@ -257,6 +262,7 @@ impl EventCarrier for RandomLinks<'_> {
         }
     }
 
+    /// Gives the bytes to the worker at a place; one call in 64 is refused while disorder lasts.
     fn carry_to(&mut self, place: u8, bytes: &[u8]) -> Result<(), LinkFault> {
         if self.disorder != 0 && self.below(64) == 0 {
             return Err(LinkFault);
@@ -270,6 +276,7 @@ impl EventCarrier for RandomLinks<'_> {
         Err(LinkFault)
     }
 
+    /// Counts a link that the coordinator hangs up, and drops its worker.
     fn drop_at(&mut self, place: u8) {
         self.hung_up = self.hung_up.saturating_add(1);
         let _ = self.end(place);

@@ -1,10 +1,11 @@
 -- What the calls of a proof's side do.
 use Rattle.std.specs.Prelude.{◌≡◌, ◌⊎◌, ℕ, ◌+◌, Bool, true, false, List, [], ◌∷◌, ◌++◌, Option, if◌then◌else◌}
+use Rattle.dimacs.specs.logic.Limits.{Limits}
 use Rattle.dimacs.specs.logic.Literal.{Literal}
 use Rattle.lrat_check.specs.declared.line_checker.CheckFault.{CheckFault}
 use Rattle.sessions.specs.Answers.{Event, Given, Asked, Answer, counted}
-use Rattle.sessions.specs.Lines.{line_in}
-use Rattle.sessions.specs.Texts.{begun, behind, going_on, listed, take_read, text_from}
+use Rattle.sessions.specs.Lines.{line_within}
+use Rattle.sessions.specs.Texts.{begun, behind, going_on, lines_top, listed, take_read, text_from}
 use Rattle.sessions.specs.View.{reached_clause, state_of}
 use Rattle.sessions.specs.Sides.{Ends, IsBroken, IsHigh, IsResting, later}
 use Rattle.sessions.specs.inner.Acting.{no_answers}
@@ -45,7 +46,7 @@ pub record TakesLine (old new : ProofSide) : Type 0 where
   pub no_event : new.no_event ≡ old.no_event
   pub no_byte : new.no_byte ≡ old.no_byte
   pub is : (D : List Event) (pieces : List (List ℕ)) → Ends old.no_event D
-      → going_on (take_read (state_of old.lines.known) (line_in old.begun.items)) old.line D (λ t G. text_from t (old.line + 1) G pieces) ≡ behind (listed answer) (later new D pieces)
+      → going_on (take_read (state_of old.lines.known) (line_within (lines_top old.lines.known.limits) old.begun.items)) old.line D (λ t G. text_from t (old.line + 1) G pieces) ≡ behind (listed answer) (later new D pieces)
 
 -- proof's sides before and after: the line in `begun` is taken, or memory was refused
 abbrev pub EndsLine : ProofSide → ProofSide → Type 0
@@ -62,9 +63,9 @@ IsEvent sent.Query lits e = e ≡ Asked lits
 abbrev pub Gives : ProofSide → ProofSide → Type 0
 Gives old new = IsBroken new ⊎ ((L : ProofLines) × (state_of L.known ≡ reached_clause old.lines.known) × (L.known.tally ≡ old.lines.known.tally) × (new ≡ record old { lines = L; phase = phase.Reading; line = old.line + 1 }))
 
--- the proof's side has taken no byte and no event
-pub record IsFirst (x : ProofSide) : Type 0 where
-  pub state : state_of x.lines.known ≡ begun
+-- the proof's side has taken no byte and no event, which are to be within the limits
+pub record IsFirst (L : Limits) (x : ProofSide) : Type 0 where
+  pub state : state_of x.lines.known ≡ begun L
   pub tally : x.lines.known.tally ≡ no_answers
   pub phase : x.phase ≡ phase.Reading
   pub line : x.line ≡ 1

@@ -12,8 +12,8 @@ use Rattle.watches.specs.Watches.{Watches, attached_of}
 abbrev pub AreNamed : List Ref → Type 0
 AreNamed clauses = (i j : ℕ) → i < length clauses → j < length clauses → (slice_index_or clauses i no_clause).number ≡ (slice_index_or clauses j no_clause).number → i ≡ j
 
--- after the heads two watches for each clause, all places of 32 bits, and a mark for each clause; a clause that is marked as detached
--- stays until the lists are rebuilt
+-- the invariant of the vectors of `Watched`: after the heads two watches for each clause, all places of 32 bits, and an entry of `live` for
+-- each clause, which is true for each unless the lists are stale
 pub record AreWatches (places : List Watch) (clauses : List Ref) (live : List Bool) (base : ℕ) (stale : Bool) : Type 0 where
   pub whole : length places ≡ base + 2 * length clauses
   pub few : length places ≤ 2 ^ 32
@@ -22,7 +22,8 @@ pub record AreWatches (places : List Watch) (clauses : List Ref) (live : List Bo
   pub named : AreNamed (attached_of clauses live)
   pub none_gone : stale ≡ false → All (λ b. b ≡ true) live
 
--- the clauses are live in the arena, each literal has a head, and the lists keep their invariant unless they are stale
+-- the invariant of `Watched` between two calls: its clauses are live in the arena, each literal has a head, and the lists keep their
+-- invariant unless they are stale
 pub record IsReady (w : Watches) (m : Clauses) (t : TrailValue) : Type 0 where
   pub wide : 2 * t.vars + 2 ≤ w.base
   pub here : All (IsLiveWithin m t.vars) w.clauses

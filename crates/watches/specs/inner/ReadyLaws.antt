@@ -20,25 +20,29 @@ use Rattle.watches.specs.inner.WatchInvariants.{no_clause, IsGuarded, IsWatching
 use Rattle.watches.specs.Watches.{Watches}
 use Rattle.watches.specs.inner.Ready.{IsReady}
 
+-- a disjunction is true if its left side is
 pub or_left : (a b : Bool) → a ≡ true → (a || b) ≡ true
 or_left true b e = refl
 or_left false b e = absurd (false≢true e)
 
+-- what is true up to level k stays true if entries are pushed
 pub up_to_front : (es more : List Assigned) (k : ℕ) (l : Literal) → up_to es k l ≡ true → up_to (es ++ more) k l ≡ true
 up_to_front es more k l h = list_any-append _ es more ∙ or_left _ _ h
 
+-- a guarded watch stays guarded if entries are pushed
 pub guarded_pushed : (es more : List Assigned) (head : ℕ) (w b : Literal) → head ≤ length es → IsGuarded es head w b → IsGuarded (es ++ more) head w b
 guarded_pushed es more head w b l g i d h e =
     let s = get_or_append_left es more d i (omega arith) in
     subst (λ (x : Assigned). up_to (es ++ more) x.level b ≡ true) (sym s) (up_to_front es more _ b (g i d h (ap (λ (x : Assigned). x.literal) (sym s) ∙ e)))
 
+-- a guarded watch stays guarded if reasons change
 pub guarded_alike : (es fs : List Assigned) (head : ℕ) (w b : Literal) → SameUpToReasons es fs → head ≤ length es → IsGuarded es head w b → IsGuarded fs head w b
 guarded_alike es fs head w b a l g i d h e =
     let below : i < length es = omega arith in
     up_to_alike es fs a _ b ∙ ap (λ k. up_to es k b) (level_alike es fs a i d below) ∙ g i d h (sym (literal_alike es fs a i d below) ∙ e)
 
 module _ (W : Watches) (m : Clauses) (t : TrailValue) (paths : ℕ → List ℕ) (w : IsWatching W m t paths) where
-  -- entries are pushed
+  -- the invariant of watch lists is kept if entries are pushed
   pub pushed : (u : TrailValue) (more : List Assigned) → u.vars ≡ t.vars → u.entries ≡ t.entries ++ more → IsWatching W m u paths
   pushed u more v e = record {
     lists = w.lists;
@@ -63,7 +67,7 @@ module _ (W : Watches) (m : Clauses) (t : TrailValue) (paths : ℕ → List ℕ)
     handled = omega (arith, w.handled, ap length e, length-append t.entries more);
   }
 
-  -- reasons change
+  -- the invariant of watch lists is kept if reasons change
   pub explained : (u : TrailValue) → u.vars ≡ t.vars → SameUpToReasons t.entries u.entries → IsWatching W m u paths
   explained u v a = record {
     lists = w.lists;
@@ -88,7 +92,7 @@ module _ (W : Watches) (m : Clauses) (t : TrailValue) (paths : ℕ → List ℕ)
     handled = omega (arith, w.handled, length_alike t.entries u.entries a);
   }
 
-  -- clauses change that are not attached
+  -- the invariant of watch lists is kept if clauses change that are not attached
   pub elsewhere : (k : Clauses) → ((n : ℕ) → Contains (numbers W.clauses) n → get k n ≡ get m n) → IsWatching W k t paths
   elsewhere k e = record {
     lists = w.lists;
@@ -112,6 +116,7 @@ module _ (W : Watches) (m : Clauses) (t : TrailValue) (paths : ℕ → List ℕ)
     ];
   }
 
+-- the invariant of `Watched` is kept if entries are pushed
 pub ready_pushed : (w : Watches) (m : Clauses) (t u : TrailValue) (more : List Assigned) → IsReady w m t → u.vars ≡ t.vars → u.entries ≡ t.entries ++ more → IsReady w m u
 ready_pushed w m t u more r v e = record {
   wide = omega (arith, r.wide);
@@ -119,6 +124,7 @@ ready_pushed w m t u more r v e = record {
   watching = λ s. let x = r.watching s in (x.0, pushed w m t x.0 x.1 u more v e);
 }
 
+-- the invariant of `Watched` is kept if reasons change
 pub ready_explained : (w : Watches) (m : Clauses) (t u : TrailValue) → IsReady w m t → u.vars ≡ t.vars → SameUpToReasons t.entries u.entries → IsReady w m u
 ready_explained w m t u r v a = record {
   wide = omega (arith, r.wide);
@@ -126,6 +132,7 @@ ready_explained w m t u r v a = record {
   watching = λ s. let x = r.watching s in (x.0, explained w m t x.0 x.1 u v a);
 }
 
+-- the invariant of `Watched` is kept if clauses change that are not attached
 pub ready_elsewhere : (w : Watches) (m k : Clauses) (t : TrailValue) → IsReady w m t → ((n : ℕ) → Contains (numbers w.clauses) n → get k n ≡ get m n) → IsReady w k t
 ready_elsewhere w m k t r e = record {
   wide = r.wide;

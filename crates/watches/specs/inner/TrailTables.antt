@@ -1,4 +1,4 @@
--- The tables of a trail: the truth of each literal by its index, and the place of each variable's entry.
+-- The tables of a trail: the truth of each literal by its index, and the index of each variable's entry.
 use Rattle.std.specs.Prelude.{◌≡◌, ℕ, ◌+◌, ◌*◌, ◌<◌, ◌≤◌, List, length, slice_index, slice_index_or, if◌then◌else◌, nat_eq, All}
 use Rattle.std.specs.List.{IsDistinct}
 use Rattle.dimacs.specs.logic.Literal.{Literal, IsWithin, var_of, index_of, negation}
@@ -11,7 +11,8 @@ use Rattle.watches.specs.declared.truth.Truth.TheVariants.{Free, True, False}
 abbrev pub truth_of : List Assigned → Literal → Truth
 truth_of entries l = if holds entries l then True else (if holds entries (negation l) then False else Free)
 
--- no two entries of one variable, levels that never fall, tables that agree with the entries, and room for all variables
+-- the invariant of a trail's tables: no two entries of one variable, levels that never fall, tables that agree with the entries, and room
+-- for an entry of each variable
 pub record IsTrail (vars : ℕ) (entries : List Assigned) (values : List Truth) (places : List ℕ) (room : ℕ) : Type 0 where
   pub valued : length values ≡ 2 * vars + 2
   pub placed : length places ≡ vars + 1

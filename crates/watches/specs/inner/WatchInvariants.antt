@@ -12,12 +12,12 @@ use Rattle.watches.specs.declared.watched.watch_lists.WatchLists.{WatchLists}
 use Rattle.watches.specs.Watches.{Watches}
 use Rattle.watches.specs.inner.WatchLists.{AreWatchLists, IsIn, literal_at, twin}
 
--- the result of a search for another literal to watch: one after the first two that is not false, None if there is none
+-- the result of a search for another literal to watch is right: one after the first two that is not false, or None if each of them is false
 abbrev pub FindsWatch : List Assigned → Clause → Option Replacement → Type 0
 FindsWatch entries C None = (k : ℕ) (d : Literal) → 2 ≤ k → k < length C → holds entries (negation (slice_index_or C k d)) ≡ true
 FindsWatch entries C (Some r) = (2 ≤ r.place) × (r.place < length C) × ((d : Literal) → slice_index_or C r.place d ≡ r.literal) × (holds entries (negation r.literal) ≡ false)
 
--- the default for a read past the end
+-- the default for a read past the end of the clauses
 abbrev pub no_clause : Ref
 no_clause = record { number = 0; place = 0; len = 0 }
 
@@ -25,15 +25,15 @@ no_clause = record { number = 0; place = 0; len = 0 }
 abbrev pub watches_of : WatchLists → Watches
 watches_of c = record { places = c.places.items; clauses = c.clauses.items; base = c.base; head = c.head; stale = c.stale }
 
--- watches that were rebuilt
+-- the value of watch lists that were just rebuilt: none is stale
 abbrev pub fresh_watches : List Watch → List Ref → (base head : ℕ) → Watches
 fresh_watches places clauses base head = record { places = places; clauses = clauses; base = base; head = head; stale = false }
 
--- one entry more of the trail was propagated
+-- the watch lists after one more entry of the trail was propagated
 abbrev pub past_head : Watches → Watches
 past_head W = record W { head = W.head + 1 }
 
--- only links and literals of watches changed
+-- the watch lists, before and after: only links and literals of watches changed
 pub record IsRelinked (old new : Watches) : Type 0 where
   pub long : length new.places ≡ length old.places
   pub rest : new ≡ record old { places = new.places }
@@ -47,20 +47,20 @@ owner W p = slice_index_or W.clauses ((p - W.base) / 2) no_clause
 abbrev pub IsGuarded : List Assigned → ℕ → Literal → Literal → Type 0
 IsGuarded entries head w b = (i : ℕ) (d : Assigned) → i < head → (slice_index_or entries i d).literal ≡ negation w → up_to entries (slice_index_or entries i d).level b ≡ true
 
--- the watch at a place is pending, or it is in the watch list of its literal, which is guarded by its twin's literal
+-- the watch at the place p is pending, or it is in the watch list of its literal and guarded by the literal of its twin
 abbrev pub IsPendingOrGuarded : List Watch → List Assigned → ℕ → (ℕ → List ℕ) → ℕ → Type 0
 IsPendingOrGuarded places entries head paths p = IsIn p (paths 0) ⊎ (IsIn p (paths (index_of (literal_at places p))) × IsGuarded entries head (literal_at places p) (literal_at places (twin p)))
 
--- the place of a watch whose clause has two or more literals
+-- a place's property: it has a watch, of a clause of two or more literals
 abbrev pub IsLong : Watches → ℕ → Type 0
 IsLong W p = (W.base ≤ p) × (p < length W.places) × (2 ≤ (owner W p).len)
 
--- some literal of the clause is true at level 0, which no backtrack undoes
+-- a clause's property: some literal of it is true at level 0, which no backtrack undoes
 abbrev pub IsRootSatisfied : Clauses → List Assigned → Ref → Type 0
 IsRootSatisfied m entries at = (C : Clause) → RefersTo m at C → (b : Literal) × Contains C b × (up_to entries 0 b ≡ true)
 
--- the invariant of watch lists, if `paths` has the places of each list by its head. The first `base` places are the heads: 0 of the pending
--- list, 1 of the retired watches, the others of the watch lists of literals, by index. After them come two watches for each of the
+-- the invariant of watch lists, if `paths` has the places of each list, by its head. The first `base` places are the heads: 0 of the
+-- pending list, 1 of the retired watches, the others of the watch lists of literals, by index. After them come two watches for each of the
 -- first clauses; later clauses have none yet
 pub record IsWatching (W : Watches) (m : Clauses) (t : TrailValue) (paths : ℕ → List ℕ) : Type 0 where
   pub lists : AreWatchLists W.places W.base paths
@@ -80,6 +80,6 @@ pub record IsWatching (W : Watches) (m : Clauses) (t : TrailValue) (paths : ℕ 
   pub short : (i : ℕ) → W.base + 2 * i < length W.places → (slice_index_or W.clauses i no_clause).len < 2 → IsIn (W.base + 2 * i) (paths 0) ⊎ IsRootSatisfied m t.entries (slice_index_or W.clauses i no_clause)
   pub handled : W.head ≤ length t.entries
 
--- the invariant of watch lists
+-- the invariant of watch lists, for some paths
 abbrev pub AreWatching : Watches → Clauses → TrailValue → Type 0
 AreWatching W m t = (paths : ℕ → List ℕ) × IsWatching W m t paths

@@ -1,50 +1,53 @@
--- Linked lists of watches in one vector. The first `base` places are the heads of the lists; 0 ends a list.
+-- Linked lists of watches in one vector. A place is an index of this vector. The first `base` places are the heads of the lists; 0 ends a
+-- list.
 use Rattle.std.specs.Prelude.{◌≡◌, ◌≢◌, ℕ, ◌+◌, ◌-◌, ◌%◌, ◌<◌, ◌≤◌, ◌⊎◌, ◌==◌, if◌then◌else◌, List, [], ◌∷◌, length, slice_index_or}
 use Rattle.dimacs.specs.logic.Literal.{Literal, Pos}
 use Rattle.watches.specs.declared.watched.watch.Watch.{Watch}
 
--- the default for a read past the end
+-- the default for a read past the end of the watches
 abbrev pub nowhere : Watch
 nowhere = record { literal = Pos 0; next = record { number = 0 } }
 
+-- the place after p in its list; 0 at the end of the list
 abbrev pub next_of : List Watch → ℕ → ℕ
 next_of places p = (slice_index_or places p nowhere).next.number
 
+-- the literal of the watch at the place p
 abbrev pub literal_at : List Watch → ℕ → Literal
 literal_at places p = (slice_index_or places p nowhere).literal
 
--- the place of the other watch of the same clause
+-- the place of the other watch of the same clause: each clause has an even place and the next one
 abbrev pub twin : ℕ → ℕ
 twin p = if p % 2 == 0 then p + 1 else p - 1
 
--- the path has p
+-- a path, the places of a list, has p
 abbrev pub IsIn : ℕ → List ℕ → Type 0
 IsIn p [] = ⊥
 IsIn p (q ∷ path) = (p ≡ q) ⊎ IsIn p path
 
--- the path has no place twice
+-- a path has no place twice
 abbrev pub IsOnce : List ℕ → Type 0
 IsOnce [] = Unit {0}
 IsOnce (q ∷ path) = (IsIn q path → ⊥) × IsOnce path
 
--- the links after p run through the path, and end
+-- the links after the place p run through the path, and end
 abbrev pub IsWatchList : List Watch → ℕ → List ℕ → Type 0
 IsWatchList places p [] = next_of places p ≡ 0
 IsWatchList places p (q ∷ path) = (next_of places p ≡ q) × IsWatchList places q path
 
--- the last place of the path, or p if it is empty
+-- the last place of the path; p if it is empty
 abbrev pub last_of : ℕ → List ℕ → ℕ
 last_of p [] = p
 last_of p (q ∷ path) = last_of q path
 
--- each head has its list; no place is in two lists, or twice in one
+-- each head has its path; no place is in two paths, or twice in one
 pub record AreWatchLists (places : List Watch) (base : ℕ) (paths : ℕ → List ℕ) : Type 0 where
   pub watch_list : (l : ℕ) → l < base → IsWatchList places l (paths l)
   pub real : (l p : ℕ) → IsIn p (paths l) → (base ≤ p) × (p < length places)
   pub once : (l : ℕ) → IsOnce (paths l)
   pub apart : (l k p : ℕ) → IsIn p (paths l) → IsIn p (paths k) → l ≡ k
 
--- the watch after `previous` is unlinked, gets another literal, and is linked after `head`
+-- watches, before and after: the one at `at` is unlinked after `previous`, gets another literal, and is linked after `head`
 pub record Relinks (old new : List Watch) (previous at head : ℕ) (literal : Literal) : Type 0 where
   pub long : length new ≡ length old
   pub out : next_of new previous ≡ next_of old at
@@ -54,7 +57,7 @@ pub record Relinks (old new : List Watch) (previous at head : ℕ) (literal : Li
   pub watched : literal_at new at ≡ literal
   pub literals : (p : ℕ) → p ≢ at → literal_at new p ≡ literal_at old p
 
--- two watches more, at the front of the pending list
+-- watches, before and after: two are appended, and are at the front of the pending list
 pub record AppendsTwo (old new : List Watch) (one two : Literal) : Type 0 where
   pub long : length new ≡ length old + 2
   pub first : next_of new 0 ≡ length old

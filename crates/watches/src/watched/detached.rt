@@ -1,11 +1,11 @@
-//! Removal of the clauses that are marked as detached.
+//! Removal of clauses that were detached.
 
 ghost use Rattle.std.specs.Prelude.{◌≡◌, true, All, length};
 ghost use Rattle.watches.specs.Watches.{attached_of};
 
 use clause_arena::Ref;
 
-/// Removes all clauses that are marked as detached, in one pass. The others keep their order.
+/// Removes each clause whose entry of `live` is false, and that entry, in one pass. The others keep their order.
 pub(crate) fn remove_detached(clauses: &mut Vec<Ref>, live: &mut Vec<bool>)
     requires { length live.old.items ≡ length clauses.old.items }
     ensures clauses { clauses.new.items ≡ attached_of clauses.old.items live.old.items }

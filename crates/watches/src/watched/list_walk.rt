@@ -24,7 +24,8 @@ pub(crate) fn recall(trail: &Trail)
 }
 
 impl WatchLists {
-    /// Visits each watch of the literal that the trail's entry at `head` made false. Returns the number of a false clause.
+    /// Visits each watch of the literal that `entry`, the trail's entry at `head`, made false. Returns the number of a false clause; None
+    /// if there is none.
     pub(crate) fn walk(
         &mut self,
         arena: &mut Arena,
@@ -56,7 +57,7 @@ impl WatchLists {
         }
     }
 
-    /// Visits the watch at `here`, the place after `previous`, whose literal became false.
+    /// Visits the watch at the place `here`, next in its list after `previous`, whose literal became false.
     #[inline(always)]
     fn visit(&mut self, arena: &mut Arena, trail: &mut Trail, previous: usize, here: usize) -> Visit
         requires walk { IsWalk (watches_of self.old) arena.old trail.old previous }

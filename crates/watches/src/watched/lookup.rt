@@ -1,4 +1,4 @@
-//! The row of an attached clause, by its number.
+//! The row of an attached clause: its index among the clauses of the watch lists.
 
 ghost use Rattle.std.specs.Prelude.{◌≡◌, ℕ, ◌+◌, ◌-◌, ◌<◌, ◌≤◌, true, false, Contains, length, slice_index_or, IfSome, IfNone};
 ghost use Rattle.watches.specs.ClauseNumbers.{numbers};
@@ -7,7 +7,8 @@ ghost use Rattle.watches.specs.Watches.{attached_of};
 
 use clause_arena::Ref;
 
-/// Binary search: the first row whose clause has no lower number, if the numbers are sorted.
+/// The first row whose clause has no lower number, by binary search; any row if the numbers are not
+/// sorted, so the caller tests it.
 fn place_of(clauses: &[Ref], number: u64) -> usize
     ensures { result ≤ length clauses.now }
 {
@@ -24,8 +25,8 @@ fn place_of(clauses: &[Ref], number: u64) -> usize
     low
 }
 
-/// The row of the clause of a number that is not marked as detached. Clauses are mostly attached in the order of their numbers, so that
-/// binary search finds the row; if it does not, all rows are tried.
+/// Finds the row of the clause of this number that is not marked as detached; None if there is none. Clauses are mostly attached in the
+/// order of their numbers, so that binary search finds the row; if it does not, all rows are tried.
 pub(crate) fn find_clause(clauses: &[Ref], live: &[bool], number: u64) -> Option<usize>
     requires { length live.now ≡ length clauses.now }
     ensures some { IfSome result (λ i. (i < length clauses.now) × ((slice_index_or clauses.now i no_clause).number ≡ number) × (slice_index_or live.now i false ≡ true)) }

@@ -19,7 +19,7 @@ use crate::watched::watch_lists::WatchLists;
 use clause_arena::Arena;
 use dimacs::Lit;
 
-/// Whether a literal is true at level 0.
+/// Whether a literal is true at level 0, so that no backtrack unassigns it.
 fn is_fixed(trail: &Trail, literal: Lit) -> bool
     requires { IsWithin trail.now.vars literal }
     ensures { OnTrue result (up_to trail.now.entries 0 literal ≡ true) }
@@ -45,7 +45,7 @@ fn is_root_satisfied(clause: &[Lit], trail: &Trail) -> bool
 }
 
 impl WatchLists {
-    /// Visits each pending watch. Returns the number of a false clause.
+    /// Visits each pending watch. Returns the number of a false clause; None if there is none.
     pub(crate) fn walk_pending(&mut self, arena: &mut Arena, trail: &mut Trail) -> Option<u64>
         requires ready { AreWatching (watches_of self.old) arena.old trail.old }
         requires few { length self.old.places.items ≤ 2 ^ 32 }
@@ -68,7 +68,7 @@ impl WatchLists {
         }
     }
 
-    /// Visits the pending watch at `here`, the place after `previous`.
+    /// Visits the pending watch at the place `here`, next in the list after `previous`.
     fn visit_pending(
         &mut self,
         arena: &mut Arena,
@@ -91,7 +91,8 @@ impl WatchLists {
         }
     }
 
-    /// Visits a pending watch of a clause of two or more literals.
+    /// Visits a pending watch of a clause of two or more literals. The watch moves to the list of a literal that is not false if there is
+    /// one; else the clause is false, or implies the other watched literal.
     fn visit_pending_long(
         &mut self,
         arena: &mut Arena,
@@ -140,9 +141,9 @@ impl WatchLists {
         }
     }
 
-    /// For a watch with a false literal, whose clause's other watched literal is true: moves it to the watch list of its literal if the
-    /// other literal became true at no greater level, so that no backtrack unassigns the other and keeps this one false. Else the watch
-    /// stays pending.
+    /// Moves a pending watch with a false literal back to the watch list of its literal, if the
+    /// clause's other watched literal is true and became so at no greater level: then no backtrack
+    /// unassigns that one and keeps this one false. Else the watch stays pending.
     fn return_if_guarded(
         &mut self,
         arena: &Arena,
@@ -173,7 +174,8 @@ impl WatchLists {
         }
     }
 
-    /// Visits a pending watch of a clause of at most one literal.
+    /// Visits a pending watch of a clause of at most one literal: pushes the literal if it is unassigned, and then retires the watch if it
+    /// may, unless the clause is false.
     fn visit_pending_short(
         &mut self,
         arena: &mut Arena,
@@ -204,8 +206,9 @@ impl WatchLists {
         }
     }
 
-    /// Retires a watch of a clause of at most one literal, if the clause is true at level 0, which no backtrack undoes. Else it stays
-    /// pending.
+    /// Moves a watch of a clause of at most one literal to the list of retired watches, which are
+    /// not visited again, if the clause is true at level 0. Else a backtrack can make it unit
+    /// again, and the watch stays pending.
     fn retire(&mut self, arena: &Arena, trail: &Trail, previous: usize, here: usize) -> Visit
         requires walk { PendingWalk (watches_of self.old) arena.now trail.now previous }
         requires here_is { here ≡ next_of self.old.places.items previous }

@@ -14,8 +14,8 @@ use crate::watched::watch_lists::WatchLists;
 use clause_arena::Arena;
 
 impl WatchLists {
-    /// Visits the pending watches, and the watch list of each literal that the trail made false, from `head` on. Returns the number of a
-    /// false clause.
+    /// Visits the pending watches, and the watch list of each literal that the trail made false, from the trail's entry at `head` on.
+    /// Returns the number of a false clause; None if there is none.
     pub(crate) fn propagate(&mut self, arena: &mut Arena, trail: &mut Trail) -> Option<u64>
         requires ready { AreWatching (watches_of self.old) arena.old trail.old }
         requires whole { length self.old.places.items ≡ self.old.base + 2 * length self.old.clauses.items }
@@ -49,8 +49,9 @@ impl WatchLists {
         }
     }
 
-    /// Moves the watch list of the literal that an entry made false to the pending list. The entry's level is lower than the level of
-    /// what its clauses imply, so that a backtrack may keep the entry and undo what was implied.
+    /// Moves the watch list of the literal that `entry` made false to the pending list. The entry's
+    /// level is lower than the level of what its clauses imply, so a backtrack may keep the entry
+    /// and undo what was implied; then these watches have to be visited again.
     fn make_pending(&mut self, arena: &Arena, trail: &Trail, entry: Assigned)
         requires ready { AreWatching (watches_of self.old) arena.now trail.now }
         requires head_in { self.old.head < length trail.now.entries }

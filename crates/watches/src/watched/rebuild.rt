@@ -1,4 +1,4 @@
-//! The watch lists, built anew after clauses were detached.
+//! The rebuild of the watch lists after clauses were detached.
 
 ghost use Rattle.std.specs.Prelude.{◌≡◌, ◌+◌, ◌*◌, ◌%◌, ◌^◌, ◌<◌, ◌≤◌, true, false, [], All, length, slice_index_or, vec_capacity};
 ghost use Rattle.dimacs.specs.logic.Literal.{Literal};
@@ -22,7 +22,7 @@ pub(crate) struct Pair {
     pub(crate) two: Lit,
 }
 
-/// The first two literals of a clause, or any two if it has fewer.
+/// The first two literals of a clause; some literal, twice, if the clause has fewer.
 pub(crate) fn first_two(literals: &[Lit]) -> Pair
     ensures { (d : Literal) → 2 ≤ length literals.now → (result.one ≡ slice_index_or literals.now 0 d) × (result.two ≡ slice_index_or literals.now 1 d) }
 {
@@ -36,7 +36,7 @@ pub(crate) fn first_two(literals: &[Lit]) -> Pair
     }
 }
 
-/// Pushes the heads of `base` empty lists. It takes no memory.
+/// Pushes the heads of `base` empty lists on the empty vector. It takes no memory.
 pub(crate) fn put_heads(places: &mut Vec<Watch>, base: usize)
     requires none { places.old.items ≡ [] }
     requires room { base ≤ vec_capacity places.old }
@@ -53,7 +53,7 @@ pub(crate) fn put_heads(places: &mut Vec<Watch>, base: usize)
     }
 }
 
-/// Builds the watches of all clauses anew, all of them pending. It takes no memory.
+/// Overwrites the watches with two for each of these clauses, all of them pending. It takes no memory.
 fn link_all(places: &mut Vec<Watch>, clauses: &[Ref], base: usize, arena: &Arena, trail: &Trail)
     requires room { base + 2 * length clauses.now ≤ vec_capacity places.old }
     requires few { base + 2 * length clauses.now ≤ 2 ^ 32 }
@@ -73,7 +73,7 @@ fn link_all(places: &mut Vec<Watch>, clauses: &[Ref], base: usize, arena: &Arena
 }
 
 impl WatchLists {
-    /// If the lists are stale: removes the clauses that are marked as detached, and makes the watches of all others pending. All watches
+    /// Removes the clauses that are marked as detached, and makes the watches of all others pending, if the lists are stale. All watches
     /// will be visited then, so that the whole trail counts as propagated. It takes no memory.
     pub(crate) fn rebuild(&mut self, live: &mut Vec<bool>, arena: &Arena, trail: &Trail)
         requires watches { AreWatches self.old.places.items self.old.clauses.items live.old.items self.old.base self.old.stale }

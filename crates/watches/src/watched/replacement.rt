@@ -1,4 +1,4 @@
-//! The search for another literal to watch.
+//! The search for a literal to watch instead of a false one.
 
 ghost use Rattle.std.specs.Prelude.{◌≡◌, ℕ, ◌<◌, ◌≤◌, All, length};
 ghost use Rattle.dimacs.specs.logic.Literal.{IsWithin};
@@ -9,15 +9,16 @@ use crate::truth::Truth;
 use crate::watched::saved_positions::saved_position;
 use dimacs::Lit;
 
-/// A literal to watch in place of another, with its place in the clause.
+/// A literal to watch instead of a false one, and its index in the clause.
 #[derive(Clone, Copy, Debug, PartialEq, Eq)]
 pub(crate) struct Replacement {
+    /// The index of the literal in the clause, at least 2.
     pub(crate) place: usize,
     pub(crate) literal: Lit,
 }
 
-/// A literal after the first two that is not false, with its place. The search begins at place `from` and wraps around to the third
-/// literal.
+/// Finds a literal after the first two that is not false; None if there is none. The search begins at index `from` and wraps around to the
+/// third literal.
 #[inline(always)]
 pub(crate) fn find_watch(literals: &[Lit], trail: &Trail, from: usize) -> Option<Replacement>
     requires { All (IsWithin trail.now.vars) literals.now }
@@ -42,7 +43,8 @@ pub(crate) fn find_watch(literals: &[Lit], trail: &Trail, from: usize) -> Option
     None
 }
 
-/// The same, from the clause's saved position. A clause of two literals has no other literal to watch.
+/// Finds a literal after the first two that is not false, from the saved position of the clause at row `owner` on; None if there is none. A
+/// clause of two literals has no other one to watch.
 #[inline(always)]
 pub(crate) fn find_next_watch(
     literals: &[Lit],

@@ -1,9 +1,12 @@
-//! The outcome of a visit.
+//! The outcome of a visit of a watch.
 
-/// The outcome of a visit of a watch: it stays in its list, it moved to another, or its clause, of this number, is false.
+/// What a visit of a watch did.
 #[derive(Clone, Copy, Debug, PartialEq, Eq)]
 pub(crate) enum Visit {
+    /// The watch stays in its list.
     Stays,
+    /// The watch moved to another list.
     Moves,
+    /// The clause of this number is false.
     False(u64),
 }

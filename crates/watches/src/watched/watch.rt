@@ -1,24 +1,26 @@
-//! A watch.
+//! A watch, and the two watches of a new clause.
 
 ghost use Rattle.std.specs.Prelude.{◌≡◌, ◌+◌, ◌^◌, ◌<◌, ◌≤◌, length, vec_capacity};
 ghost use Rattle.watches.specs.inner.WatchLists.{AppendsTwo};
 
 use dimacs::Lit;
 
-/// The place of a watch in the vector of watches; 0 ends a list.
+/// The place of a watch, its index in the vector of watches; 0 ends a list.
 #[derive(Clone, Copy, Debug, PartialEq, Eq)]
 pub(crate) struct PlaceId {
     pub(crate) number: u32,
 }
 
-/// One of the two watches of a clause: the watched literal, and the next place in its list.
+/// One of the two watches of a clause: the watched literal, and the place of the next watch of its list.
 #[derive(Clone, Copy, Debug, PartialEq, Eq)]
 pub(crate) struct Watch {
+    /// The watched literal.
     pub(crate) literal: Lit,
+    /// The place of the next watch of the list.
     pub(crate) next: PlaceId,
 }
 
-/// Appends the two watches of a clause, and puts them at the front of the pending list. It takes no memory.
+/// Appends the two watches of a clause to the vector, and puts them at the front of the pending list. It takes no memory.
 pub(crate) fn append(places: &mut Vec<Watch>, first: Lit, second: Lit)
     requires room { length places.old.items + 2 ≤ vec_capacity places.old }
     requires some { 0 < length places.old.items }

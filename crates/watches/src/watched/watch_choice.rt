@@ -11,10 +11,10 @@ use crate::truth::Truth;
 use clause_arena::{Arena, Ref};
 use dimacs::Lit;
 
-/// The level of a literal that is not false: above all levels.
+/// Stands for the level of a literal that is not false: above all levels.
 const NEVER: u64 = u64::MAX;
 
-/// The level at which a literal became false, or `NEVER`.
+/// The level at which a literal became false; `NEVER` if it is not false.
 #[inline(always)]
 fn falsified_at(literal: Lit, trail: &Trail) -> u64
     requires { IsWithin trail.now.vars literal }
@@ -25,7 +25,8 @@ fn falsified_at(literal: Lit, trail: &Trail) -> u64
     }
 }
 
-/// The place of the best literal to watch among those from `from` on: the first that is not false, else the one of the greatest level.
+/// The index of the best literal to watch among those from index `from` on: the first that is not
+/// false, else the first of the greatest level, which a backtrack unassigns first.
 fn best_from(literals: &[Lit], trail: &Trail, from: usize) -> usize
     requires within { All (IsWithin trail.now.vars) literals.now }
     requires from_in { from < length literals.now }
@@ -46,7 +47,7 @@ fn best_from(literals: &[Lit], trail: &Trail, from: usize) -> usize
     best
 }
 
-/// Swaps the best literal to watch, among those from `from` on, to `from`.
+/// Swaps the best literal to watch, among those from index `from` on, to that index.
 fn put_best(arena: &mut Arena, trail: &Trail, at: Ref, from: usize)
     requires live { IsLive arena.old at }
     requires from_in { from < at.len }
@@ -58,7 +59,7 @@ fn put_best(arena: &mut Arena, trail: &Trail, at: Ref, from: usize)
     arena.swap(at, from, best);
 }
 
-/// Swaps the two best literals to watch to the front of a clause.
+/// Swaps the two best literals to watch to the front of a clause; nothing changes if it has fewer than two.
 pub(crate) fn put_best_first(arena: &mut Arena, trail: &Trail, at: Ref)
     requires live { IsLive arena.old at }
     requires within { (C : Clause) → RefersTo arena.old at C → All (IsWithin trail.now.vars) C }

@@ -1,4 +1,4 @@
-//! The watch lists.
+//! The watch lists, and the moves of watches between them.
 
 ghost use Rattle.std.specs.Prelude.{◌≡◌, ◌≢◌, ◌-◌, ◌/◌, ◌^◌, ◌<◌, ◌≤◌, length};
 ghost use Rattle.watches.specs.inner.WatchLists.{next_of, literal_at, twin, Relinks};
@@ -11,15 +11,19 @@ use dimacs::Lit;
 /// The watches and the clauses that own them.
 ///
 /// The first `base` places are the heads of the lists: 0 of the pending list, 1 of the retired watches, and `Lit::index` of the watch list
-/// of a literal. The watches of clause i are at `base + 2 * i` and the next place. `positions` has the saved position of each clause.
-/// `head` is how many entries of the trail were propagated. If the lists are `stale`, a clause of theirs was detached, and they have to be
-/// rebuilt.
+/// of a literal. The watches of clause i are at the places `base + 2 * i` and `base + 2 * i + 1`.
 pub(crate) struct WatchLists {
+    /// The heads of the lists, and after them the watches.
     pub(crate) places: Vec<Watch>,
+    /// The clauses that own the watches, those included that were detached since the last rebuild.
     pub(crate) clauses: Vec<Ref>,
+    /// The saved position of each clause.
     pub(crate) positions: Vec<u32>,
+    /// The number of heads.
     pub(crate) base: usize,
+    /// The number of the trail's entries that were propagated.
     pub(crate) head: usize,
+    /// Whether a clause was detached since the last rebuild: then the lists have to be rebuilt.
     pub(crate) stale: bool,
 }
 
@@ -37,7 +41,7 @@ impl Drop for WatchLists {
 }
 
 impl WatchLists {
-    /// The literal of the watch at a place.
+    /// The literal of the watch at the place `at`.
     #[inline(always)]
     pub(crate) fn own_literal(&self, at: usize) -> Lit
         requires { at < length self.now.places.items }
@@ -46,7 +50,7 @@ impl WatchLists {
         self.places[at].literal
     }
 
-    /// The literal of a clause's other watch.
+    /// The literal of the other watch of the clause that owns the place `at`.
     #[inline(always)]
     pub(crate) fn other_literal(&self, at: usize) -> Lit
         requires { twin at < length self.now.places.items }
@@ -55,7 +59,7 @@ impl WatchLists {
         self.places[at ^ 1].literal
     }
 
-    /// The next place of a list; 0 at its end.
+    /// The place after `at` in its list; 0 at the end of the list.
     #[inline(always)]
     pub(crate) fn next_place(&self, at: usize) -> usize
         requires { at < length self.now.places.items }
@@ -64,7 +68,7 @@ impl WatchLists {
         self.places[at].next.number as usize
     }
 
-    /// The row in `clauses` of the clause that owns a place.
+    /// The row in `clauses` of the clause that owns the place `at`.
     #[inline(always)]
     pub(crate) fn owner_row(&self, at: usize) -> usize
         requires { self.now.base ≤ at }
@@ -73,7 +77,7 @@ impl WatchLists {
         (at - self.base) / 2
     }
 
-    /// The clause that owns a place.
+    /// The clause that owns the place `at`.
     #[inline(always)]
     pub(crate) fn owner_of(&self, at: usize) -> Ref
         requires low { self.now.base ≤ at }
@@ -83,7 +87,8 @@ impl WatchLists {
         self.clauses[self.owner_row(at)]
     }
 
-    /// Moves a watch to the front of another list: unlinks it after `previous`, sets its literal, and links it after `head`.
+    /// Moves the watch at the place `at` to the front of another list: unlinks it after `previous`, sets its literal, and links it after
+    /// `head`.
     #[inline(always)]
     pub(crate) fn relink(&mut self, previous: usize, at: usize, head: usize, literal: Lit)
         requires previous_in { previous < length self.old.places.items }

@@ -5,20 +5,20 @@ use Rattle.commands.proofs.TextLemmas.{none_held, read_end_events, read_kept_eve
 use Rattle.commands.proofs.check_session.feed_events.Goals as goal
 
 pub returns-else-is_empty-clause-read : goal.returns-else-is_empty-clause-read
-returns-else-is_empty-clause-read g c = λ e p l h.
+returns-else-is_empty-clause-read g c = λ L e p l h.
     let rest = g.S.Read.remaining in
     let mid = left rest c.fill.new.self in
     let end = left rest c.take.new.self in
     let n = c.feed_events-taken.result in
     let more : Consumes mid end (take n c.held-else-is_empty.result.now) =
     subst (λ (bs : List ℕ). Consumes mid end (take n bs)) (sym c.held-else-is_empty.ensures) c.take.ensures.taken in
-    read_more_events e p l mid end c.args.check.now c.feed_events-taken.new.self (take n c.held-else-is_empty.result.now) more c.feed_events-taken.ensures.ends c.feed_events-taken.ensures.taken
-    (read_kept_events e p l (left rest c.args.events.now) mid c.args.check.now c.in_ok-fill.ensures.kept h)
+    read_more_events L e p l mid end c.args.check.now c.feed_events-taken.new.self (take n c.held-else-is_empty.result.now) more c.feed_events-taken.ensures.ends (c.feed_events-taken.ensures.taken L)
+    (read_kept_events L e p l (left rest c.args.events.now) mid c.args.check.now c.in_ok-fill.ensures.kept h)
 
 pub returns-then-is_empty-clause-read : goal.returns-then-is_empty-clause-read
-returns-then-is_empty-clause-read g c = λ e p l h.
+returns-then-is_empty-clause-read g c = λ L e p l h.
     let rest = g.S.Read.remaining in
     let mid = left rest c.fill.new.self in
     let none : held c.fill.new.self ≡ [] = sym c.held.ensures ∙ none_held c.held.result.now (sym c.is_empty.ensures ∙ c.if-is_empty.true) in
-    read_end_events e p l mid c.args.check.now c.end_events.new.self (c.in_ok-fill.ensures.ended none) c.end_events.ensures.proof c.end_events.ensures.taken
-    (read_kept_events e p l (left rest c.args.events.now) mid c.args.check.now c.in_ok-fill.ensures.kept h)
+    read_end_events L e p l mid c.args.check.now c.end_events.new.self (c.in_ok-fill.ensures.ended none) c.end_events.ensures.proof (c.end_events.ensures.taken L)
+    (read_kept_events L e p l (left rest c.args.events.now) mid c.args.check.now c.in_ok-fill.ensures.kept h)

@@ -7,15 +7,15 @@ use Rattle.commands.proofs.closed_leaves.put_closed.Goals as goal
 pub loop-place-init : goal.loop-place-init
 loop-place-init c = record { low = omega arith; told = λ leaves e n. told_none c.args.missing.now leaves c.args.out.now.items e }
 
-pub passed-at-requires : goal.passed-at-requires
-passed-at-requires c = let low = c.loop-place.invariant.low in let here = c.loop-place-test.true in let few = c.requires in omega (arith, low, here, few)
+pub position_after-at-requires : goal.position_after-at-requires
+position_after-at-requires c = let low = c.loop-place.invariant.low in let here = c.loop-place-test.true in let few = c.requires in omega (arith, low, here, few)
 
 pub loop-place-preserved : goal.loop-place-preserved
 loop-place-preserved c = record {
-  low = passed_low c.is_next-is_open.result c.loop-place.at c.loop-place.place c.passed-at.result c.passed-at.ensures c.loop-place.invariant.low;
+  low = passed_low c.is_next-is_open.result c.loop-place.at c.loop-place.place c.position_after-at.result c.position_after-at.ensures c.loop-place.invariant.low;
   told = λ leaves e n.
       let here = c.loop-place-test.true in
-      subst (λ (m : ℕ). IsAt c.args.missing.now leaves c.args.out.now.items (c.loop-place.place + 1) m c.put_if_closed.new.out.items) (sym c.passed-at.ensures)
+      subst (λ (m : ℕ). IsAt c.args.missing.now leaves c.args.out.now.items (c.loop-place.place + 1) m c.put_if_closed.new.out.items) (sym c.position_after-at.ensures)
       (told_next c.args.missing.now leaves c.args.out.now.items c.loop-place.place c.loop-place.at c.loop-place.out.items c.put_if_closed.new.out.items c.is_next-is_open.result
       (c.loop-place.invariant.told leaves e n) (omega (arith, here, n)) c.is_next-is_open.ensures c.in_ok-put_if_closed.ensures);
 }

@@ -13,7 +13,7 @@ pub loop-name-preserved : goal.loop-name-preserved
 loop-name-preserved g c = λ F cubes s h.
     let Takes : List ℕ → Gone → Gone → Type 0 = λ name. TakesText F cubes c.args.quiet (g.D.Disk.holds c.args.disk.now name) name in
     let before = c.loop-name.invariant F cubes s h in
-    let after = c.in_ok-take.ensures.taken F cubes before.0 before.2 in
+    let after = c.in_ok-take_file.ensures.taken F cubes before.0 before.2 in
     let names = c.args.names.now in
     let i = c.loop-name.name-index in (
       after.0,

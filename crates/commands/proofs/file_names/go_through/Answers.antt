@@ -3,7 +3,7 @@ use Rattle.std.specs.Prelude.{◌≢◌, IfOk, Result, codes}
 use Rattle.std.proofs.lemmas.Result.{IfOk-weaker, on_ok_weaker}
 use Rattle.dimacs.specs.logic.Cnf.{Cnf}
 use Rattle.icnf.specs.Leaves.{Cube}
-use Rattle.commands.specs.Known.{Of}
+use Rattle.commands.specs.Known.{HoldsOf}
 use Rattle.commands.specs.FormulaTree.{OfQuietTree}
 use Rattle.commands.specs.Names.{AreTaken, Gone, OfListed, OfNames, lists, names_of, none_gone}
 use Rattle.commands.specs.Join.{IsStored, Joins, OneStops, Stops, Takes}

@@ -3,7 +3,7 @@ use Rattle.std.specs.Prelude.{◌≢◌, IfOk, Result, codes}
 use Rattle.std.proofs.lemmas.Result.{IfOk-weaker, on_ok_weaker}
 use Rattle.dimacs.specs.logic.Cnf.{Cnf}
 use Rattle.icnf.specs.Leaves.{Cube}
-use Rattle.commands.specs.Known.{Of}
+use Rattle.commands.specs.Known.{HoldsOf}
 use Rattle.commands.specs.FormulaTree.{OfQuietTree}
 use Rattle.commands.specs.Names.{AreTaken, Gone, OfListed, OfNames, lists, names_of, none_gone}
 use Rattle.commands.specs.Join.{IsStored, Joins, OneStops, Stops, Takes}
@@ -23,7 +23,7 @@ returns-in-Some-clause-goes g c = λ F cubes s at.
     let k = c.loop-i.invariant.goes F cubes s at in
     let a = c.args.run.now in
     let b = c.loop-i.run in
-    let new = c.take.new.run in
+    let new = c.join_file.new.run in
     let names = c.args.names.now in
     let item : Bor (List ℕ) = record { ref_ptr = (0, 0); now = [] } in
     let name = (get_or names c.loop-i.i item).now in
@@ -44,7 +44,7 @@ loop-i-preserved g c = record {
       let k = c.loop-i.invariant.goes F cubes s at in
       let a = c.args.run.now in
       let b = c.loop-i.run in
-      let new = c.take.new.run in
+      let new = c.join_file.new.run in
       let names = c.args.names.now in
       let item : Bor (List ℕ) = record { ref_ptr = (0, 0); now = [] } in
       let name = (get_or names c.loop-i.i item).now in

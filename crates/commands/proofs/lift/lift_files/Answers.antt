@@ -1,6 +1,6 @@
 use Rattle.std.proofs.Common.{◌≡◌, ℕ, List, Option}
 use Rattle.std.proofs.lemmas.Result.{IfOk-weaker}
-use Rattle.commands.specs.Known.{Of}
+use Rattle.commands.specs.Known.{HoldsOf}
 use Rattle.commands.specs.Lift.{LiftsTree}
 use Rattle.commands.specs.Trees.{OfTree}
 use Rattle.commands.specs.Written.{Keeps}
@@ -17,11 +17,11 @@ returns-in-With-clause-lifts g c =
     let new = c.lift_tree.new.disk in
     let holds : List ℕ → Option (List ℕ) = g.D.Disk.holds old in
     let s = c.in-With.split in
-    let Told : Report → Cnf → List Cube → Type 0 = λ r F tree. Of (holds files.proof.now)
+    let Told : Report → Cnf → List Cube → Type 0 = λ r F tree. HoldsOf (holds files.proof.now)
     (λ proof. LiftsTree (Keeps g.D.Drafts.kept old new files.log.binary files.log.path.now) (new ≡ old) F tree c.args.lifted proof r) in
     IfOk-weaker c.lift_tree.result (λ r. Told r s.formula s.tree)
-    (λ r. Of (holds files.input.now) (λ text. Of (holds files.cubes.now) (λ lines. OfTree text lines (Told r) r)))
-    (λ r h. of_tree (Told r) r (holds files.input.now) (holds files.cubes.now) c.in_ok-begun.begun s c.in-With.is h c.in_ok-begun.ensures.begins) c.lift_tree.ensures.lifts
+    (λ r. HoldsOf (holds files.input.now) (λ text. HoldsOf (holds files.cubes.now) (λ lines. OfTree c.args.limits text lines (Told r) r)))
+    (λ r h. of_tree c.args.limits (Told r) r (holds files.input.now) (holds files.cubes.now) c.in_ok-begun.begun s c.in-With.is h c.in_ok-begun.ensures.begins) c.lift_tree.ensures.lifts
 
 pub returns-in-Refused-clause-lifts : goal.returns-in-Refused-clause-lifts
 returns-in-Refused-clause-lifts g c =
@@ -29,6 +29,6 @@ returns-in-Refused-clause-lifts g c =
     let old = c.args.disk.now in
     let holds : List ℕ → Option (List ℕ) = g.D.Disk.holds old in
     let r = c.in-Refused.report in
-    let Told : Cnf → List Cube → Type 0 = λ F tree. Of (holds files.proof.now)
+    let Told : Cnf → List Cube → Type 0 = λ F tree. HoldsOf (holds files.proof.now)
     (λ proof. LiftsTree (Keeps g.D.Drafts.kept old old files.log.binary files.log.path.now) (old ≡ old) F tree c.args.lifted proof r) in
-    of_refused Told r (holds files.input.now) (holds files.cubes.now) c.in_ok-begun.begun c.in-Refused.is c.in_ok-begun.ensures.begins
+    of_refused c.args.limits Told r (holds files.input.now) (holds files.cubes.now) c.in_ok-begun.begun c.in-Refused.is c.in_ok-begun.ensures.begins

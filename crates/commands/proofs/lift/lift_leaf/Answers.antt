@@ -1,6 +1,6 @@
 use Rattle.std.proofs.Common.{◌≡◌, Option, subst}
 use Rattle.std.proofs.lemmas.Result.{IfOk-weaker}
-use Rattle.commands.specs.Known.{Of}
+use Rattle.commands.specs.Known.{HoldsOf}
 use Rattle.commands.specs.Lift.{LiftsAt}
 use Rattle.commands.specs.Written.{Keeps}
 use Rattle.commands.specs.declared.lift.LeafLift.{LeafLift}
@@ -26,8 +26,8 @@ returns-in-Some-clause-lifts g c =
     let start = subst P c.in-Some.is c.in_ok-begun.ensures.begins in
     let taker : LeafLift = record { lift = l; leaf = c.args.leaf } in
     IfOk-weaker c.lift_proof.result
-    (λ r. Of (g.D.Disk.holds old c.args.files.now.proof.now) (λ proof. IsFiltered leaf_moves EndsLeaf kept old new log.binary log.path.now taker proof r))
-    (λ r. Of (g.D.Disk.holds old c.args.files.now.proof.now) (λ proof. LiftsAt (Keeps kept old new log.binary log.path.now) (new ≡ old) F q c.args.leaf proof r))
+    (λ r. HoldsOf (g.D.Disk.holds old c.args.files.now.proof.now) (λ proof. IsFiltered leaf_moves EndsLeaf kept old new log.binary log.path.now taker proof r))
+    (λ r. HoldsOf (g.D.Disk.holds old c.args.files.now.proof.now) (λ proof. LiftsAt (Keeps kept old new log.binary log.path.now) (new ≡ old) F q c.args.leaf proof r))
     (λ r h. of_map (λ proof. IsFiltered leaf_moves EndsLeaf kept old new log.binary log.path.now taker proof r)
     (λ proof. LiftsAt (Keeps kept old new log.binary log.path.now) (new ≡ old) F q c.args.leaf proof r) _
     (λ proof poured. at_lifts kept old new log.binary log.path.now F q l c.args.leaf proof r start poured) h) c.lift_proof.ensures.poured

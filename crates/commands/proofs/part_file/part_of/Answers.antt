@@ -5,5 +5,5 @@ use Rattle.commands.proofs.part_file.part_of.Goals as goal
 
 pub returns-then-binary : goal.returns-then-binary
 returns-then-binary g c = λ path h.
-    let P : Bool → Type 0 = λ b. IsPart g.D.Drafts.made b path [] (record { draft = c.args.draft; form = Some c.new.result }) in
-    subst P (sym c.if-binary.true) (binary_begins g.D.Drafts.made path c.args.draft c.new.result c.new.ensures (nothing_waits c.new.result c.new.ensures) h)
+    let P : Bool → Type 0 = λ b. IsPart g.D.Drafts.made b path [] (record { draft = c.args.draft; form = Some c.within.result }) in
+    subst P (sym c.if-binary.true) (binary_begins g.D.Drafts.made path c.args.draft c.within.result c.within.ensures (nothing_waits c.within.result c.within.ensures) h)

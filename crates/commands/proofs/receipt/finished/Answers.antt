@@ -11,8 +11,8 @@ use Rattle.commands.proofs.receipt.finished.Goals as goal
 pub returns-in-Ok-clause-comes : goal.returns-in-Ok-clause-comes
 returns-in-Ok-clause-comes c = λ log h.
     let s = c.args.split.now in
-    IfOk-weaker c.told.result (λ (x : Received). (bytes : List ℕ) → IsReceiptOf s.formula s.tree bytes (contents_of c.in-Ok.receipt) → ComesTo s.formula s.tree bytes x) (ComesTo s.formula s.tree log)
-    (λ x tells. tells log (c.in-Ok.ensures.receipt s.formula s.tree log h)) c.told.ensures.tells
+    IfOk-weaker c.receipt_and_report.result (λ (x : Received). (bytes : List ℕ) → IsReceiptOf s.formula s.tree bytes (contents_of c.in-Ok.receipt) → ComesTo s.formula s.tree bytes x) (ComesTo s.formula s.tree log)
+    (λ x tells. tells log (c.in-Ok.ensures.receipt s.formula s.tree log h)) c.receipt_and_report.ensures.tells
 
 pub returns-in_ok-report-in-Err-clause-comes : goal.returns-in_ok-report-in-Err-clause-comes
 returns-in_ok-report-in-Err-clause-comes c = λ log h.

@@ -12,6 +12,7 @@ pub advance-requires-clause-closes : goal.advance-requires-clause-closes
 advance-requires-clause-closes c =
     let w = c.requires.closes in (
       base_with w.0 w.1,
+      w.4,
       sym (at_ok {A = Front} {E = JoinFault} c.args.front c.in_ok-front.field-0 (λ j. j.base ≡ length (base_with w.0 w.1).clauses) c.in_ok-front.was w.3),
       subst (λ (q : Cube). Closes (base_with w.0 w.1) q c.text_at.result.now) (sym c.cube.ensures.cube) (subst (Closes (base_with w.0 w.1) (get_or c.args.tree.now c.args.place [])) (sym c.text_at.ensures) w.2),
     )

@@ -14,10 +14,10 @@ loop-literal-init c = record {
 
 pub loop-literal-preserved : goal.loop-literal-preserved
 loop-literal-preserved c = record {
-  marks = subst (λ xs. AreMarks xs c.keep.new.kept.items c.keep.new.stamps c.args.stamp)
+  marks = subst (λ xs. AreMarks xs c.push_distinct.new.kept.items c.push_distinct.new.stamps c.args.stamp)
       (sym (take_more c.args.clause.now c.loop-literal.literal-index c.literal-item.result c.loop-literal-test.true ∙ ap (λ (x : Literal). take c.loop-literal.literal-index c.args.clause.now ++ x ∷ []) (sym c.literal-item.is)))
-      (c.in_ok-keep.ensures.marks (take c.loop-literal.literal-index c.args.clause.now) c.loop-literal.invariant.marks);
-  bounded = c.in_ok-keep.ensures.bounded c.loop-literal.invariant.bounded;
+      (c.in_ok-push_distinct.ensures.marks (take c.loop-literal.literal-index c.args.clause.now) c.loop-literal.invariant.marks);
+  bounded = c.in_ok-push_distinct.ensures.bounded c.loop-literal.invariant.bounded;
 }
 
 pub returns-clause-twins : goal.returns-clause-twins

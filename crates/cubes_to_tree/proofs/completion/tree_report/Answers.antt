@@ -1,9 +1,10 @@
 use Rattle.std.proofs.Common.{◌≡◌, ◌∙◌, ◌++◌, ℕ, Bool, List, [], length, ap₂, arith, subst, sym}
 use Rattle.std.proofs.lemmas.List.Elements.{All-nil}
-use Rattle.dimacs.specs.logic.Cnf.{AreWithin, greatest_in}
+use Rattle.dimacs.specs.logic.Cnf.{AreWithin, FitsIn, greatest_in}
+use Rattle.dimacs.specs.logic.Limits.{Limits}
 use Rattle.dimacs.specs.logic.Literal.{IsWithin}
 use Rattle.icnf.specs.Leaves.{Cube, Leaves}
-use Rattle.icnf.specs.Grammar.{Spells, formula_of, spelling}
+use Rattle.icnf.specs.Grammar.{SpellsWithin, formula_of, spelling}
 use Rattle.std.proofs.lemmas.List.{length-map}
 use Rattle.cubes_to_tree.proofs.SpellingLemmas.{lines_ahead}
 use Rattle.cubes_to_tree.specs.Completion.{CompletedLeaf, added_lines, cubes_in, flags_of, tree}
@@ -42,9 +43,10 @@ returns c = λ given same.
     let many = leaf_count-is [] root in
     let few = c.requires.few in
     let flag_count = length-map leaves (λ (l : CompletedLeaf). l.added) in
-    let spells = subst (λ (qs : List Cube). Spells (spelling c.args.formula.now.clauses qs) (formula_of c.args.formula.now.clauses) qs) (c.finish-tree.ensures ∙ cubes) c.in_ok-write.ensures.spells in
+    let spells : (L : Limits) → FitsIn L c.args.formula.now → SpellsWithin L (spelling c.args.formula.now.clauses (cubes_in leaves)) (formula_of c.args.formula.now.clauses) (cubes_in leaves) =
+    λ L fits. subst (λ (qs : List Cube). SpellsWithin L (spelling c.args.formula.now.clauses qs) (formula_of c.args.formula.now.clauses) qs) (c.finish-tree.ensures ∙ cubes) (c.in_ok-write.ensures.fits L fits) in
     tree leaves (root_completes g root c.requires.below c.requires.some given same) (omega arith)
-    (lines_ahead 1 (flags_of leaves) (spelling c.args.formula.now.clauses (cubes_in leaves)) (formula_of c.args.formula.now.clauses) (cubes_in leaves) (omega arith) spells) (record {
+    (λ L fits. lines_ahead L 1 (flags_of leaves) (spelling c.args.formula.now.clauses (cubes_in leaves)) (formula_of c.args.formula.now.clauses) (cubes_in leaves) (omega arith) (spells L fits)) (record {
       status_is = c.in_ok-report.ensures.status;
       text_is = c.in_ok-write.ensures.ok ∙ ap₂ (λ (xs : List ℕ) (qs : List Cube). xs ++ spelling c.args.formula.now.clauses qs)
           (c.in_ok-put_added.ensures ∙ ap₂ (λ (xs : List ℕ) (fs : List Bool). xs ++ added_lines 1 fs) c.in_ok-report.ensures.text flags) (c.finish-tree.ensures ∙ cubes);

@@ -5,6 +5,6 @@ use Rattle.event_loop.proofs.idle_workers.poll_one.Goals as goal
 
 pub returns-clause-idle : goal.returns-clause-idle
 returns-clause-idle g c =
-    served c.poll_and_send-turn.result c.settle.result c.poll_and_send-turn.new.connection c.settle.new.connection c.poll_and_send-turn.new.coordinator c.settle.new.dispatcher.coordinator
-    c.poll_and_send-turn.ensures.idle c.settle.ensures.closed c.settle.ensures.memory
-    (λ still. ((c.settle.ensures.same still).0, ap (λ (dispatcher : Dispatcher). dispatcher.coordinator) (c.settle.ensures.same still).1))
+    served c.poll_and_send-turn.result c.close_if_broken.result c.poll_and_send-turn.new.connection c.close_if_broken.new.connection c.poll_and_send-turn.new.coordinator c.close_if_broken.new.dispatcher.coordinator
+    c.poll_and_send-turn.ensures.idle c.close_if_broken.ensures.closed c.close_if_broken.ensures.memory
+    (λ still. ((c.close_if_broken.ensures.same still).0, ap (λ (dispatcher : Dispatcher). dispatcher.coordinator) (c.close_if_broken.ensures.same still).1))

@@ -3,5 +3,5 @@ use Rattle.event_loop.proofs.registration.register_one.Goals as goal
 
 pub returns-clause-waits : goal.returns-clause-waits
 returns-clause-waits g c =
-    settled_waits c.register-turn.result c.settle.result c.register-turn.new.connection c.settle.new.connection c.args.may_register c.register-turn.ensures.waits c.settle.ensures.closed c.settle.ensures.memory
-    (λ still. (c.settle.ensures.same still).0)
+    settled_waits c.register-turn.result c.close_if_broken.result c.register-turn.new.connection c.close_if_broken.new.connection c.args.may_register c.register-turn.ensures.waits c.close_if_broken.ensures.closed c.close_if_broken.ensures.memory
+    (λ still. (c.close_if_broken.ensures.same still).0)

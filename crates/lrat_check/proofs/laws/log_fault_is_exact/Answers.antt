@@ -4,10 +4,10 @@ use Rattle.lrat_check.proofs.Logs.{line_takes, takes_line}
 use Rattle.lrat_check.proofs.laws.log_fault_is_exact.Goals as goal
 
 pub returns-clause-line : goal.returns-clause-line
-returns-clause-line c = λ old new line. (line_takes old new line, takes_line old new line)
+returns-clause-line c = λ old new line. ((λ few e. line_takes old new line few e), (λ h. takes_line old new line h))
 
 pub returns-clause-text : goal.returns-clause-text
-returns-clause-text c = λ F text. (checked_log F text, log_checked F text)
+returns-clause-text c = λ F text. ((λ e. checked_log F text e), (λ small h. log_checked F text small h))
 
 pub returns-clause-begun : goal.returns-clause-begun
 returns-clause-begun c = begun_stands

@@ -2,7 +2,7 @@ use Rattle.std.proofs.Common.{◌<◌, length, ◌∙◌, sym, ap, arith}
 use Rattle.dimacs.specs.logic.Literal.{Literal}
 use Rattle.dimacs.specs.logic.Propagation.{Assumed}
 use Rattle.lrat_check.specs.inner.Marks.{assumed_by}
-use Rattle.lrat_check.specs.inner.Statuses.{status_in}
+use Rattle.lrat_check.specs.Statuses.{status_in}
 use Rattle.lrat_check.proofs.Free.{status-more, status-more_false, none_true-more}
 use Rattle.lrat_check.proofs.propagation.classify_any.Goals as goal
 use Rattle.lrat_check.proofs.propagation.classify_any.Goals.{then-not-is_assumed, else-not-is_assumed}

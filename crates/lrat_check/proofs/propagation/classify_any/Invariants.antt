@@ -1,7 +1,7 @@
 use Rattle.std.proofs.Common.{◌≡◌, false, take}
 use Rattle.lrat_check.specs.inner.Marks.{assumed_by}
 use Rattle.lrat_check.specs.StepFaults.{not_false, status_of_free}
-use Rattle.lrat_check.specs.inner.Statuses.{status_in}
+use Rattle.lrat_check.specs.Statuses.{status_in}
 use Rattle.std.specs.List.{list_any}
 use Rattle.lrat_check.proofs.propagation.classify_any.Given as goal
 

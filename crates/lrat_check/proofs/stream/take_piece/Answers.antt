@@ -10,5 +10,5 @@ returns-in-Ok-clause-taken c = (c.in-Ok.ensures.taken.0, hands_lead c.args.lines
 
 pub returns-in-Err-clause-taken : goal.returns-in-Err-clause-taken
 returns-in-Err-clause-taken c =
-    subst (λ fault. (fault ≡ no_memory) ⊎ LeadsTo (Within c.args.lines.now.checker c.args.lines.now.line c.args.begun.now) c.args.piece.now (Failed fault)) (sym c.of_piece.ensures)
+    subst (λ fault. (fault ≡ no_memory) ⊎ LeadsTo (Within c.args.lines.now.limit.most c.args.lines.now.checker c.args.lines.now.line c.args.begun.now) c.args.piece.now (Failed fault)) (sym c.of_piece.ensures)
     (stops_lead c.args.lines.now c.args.begun.now c.args.piece.now c.feed.new.taker c.in-Err.fault c.in-Err.ensures.taken)

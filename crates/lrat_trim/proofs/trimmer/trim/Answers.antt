@@ -1,4 +1,4 @@
-use Rattle.std.proofs.Common.{[]}
+use Rattle.std.proofs.Common.{[], arith}
 use Rattle.std.proofs.lemmas.Result.{err_from_is_err_and}
 use Rattle.lrat_trim.specs.TrimmedProof.{HasTaken, Trims}
 use Rattle.lrat_trim.proofs.FeedLemmas.{trims_ok, trims_accepted, trims_complete, trims_err, piece_fault, no_fault}
@@ -20,7 +20,7 @@ pub returns-clause-complete : goal.returns-clause-complete
 returns-clause-complete c =
     let F = c.args.formula in
     let proof = c.args.proof.now in
-    trims_complete F proof c.finish.result (c.proof_fault_is_exact.ensures.none F proof) (c.finish.ensures F proof (c.feed.ensures.taken F [] c.in_ok-trimming.ensures))
+    trims_complete F proof c.finish.result (c.proof_fault_is_exact.ensures.none F proof (omega (arith, c.vars.ensures.valid.vars))) (c.finish.ensures F proof (c.feed.ensures.taken F [] c.in_ok-trimming.ensures))
 
 pub returns-clause-refused : goal.returns-clause-refused
 returns-clause-refused c =
@@ -34,7 +34,7 @@ returns-in_err-feed-clause-complete c =
     rw (p.1, p.2) (λ accepts.
     let F = c.args.formula in
     let proof = c.args.proof.now in
-    no_fault F proof c.in_err-feed.field-0.0 (c.proof_fault_is_exact.ensures.none F proof) accepts
+    no_fault F proof c.in_err-feed.field-0.0 (c.proof_fault_is_exact.ensures.none F proof (omega (arith, c.vars.ensures.valid.vars))) accepts
     (piece_fault F proof c.feed.new.self c.in_err-feed.field-0.0 (c.feed.ensures.taken F [] c.in_ok-trimming.ensures) c.in_err-feed.ensures.answers))
 
 pub returns-in_err-feed-clause-refused : goal.returns-in_err-feed-clause-refused

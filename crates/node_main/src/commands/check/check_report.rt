@@ -21,7 +21,8 @@ fn refused_text(alloc: Global, fault: CheckFault) -> Result<Report, AllocError>
     Ok(report)
 }
 
-/// The report of a check of a text with this answer: status 0 at `Ok`, 1 at a fault. An error is want of memory, here or in the check.
+/// The report of a check of a text: `s VERIFIED` and status 0 at `Ok`, the fault and status 1 else.
+/// An error is want of memory, here or in the check.
 pub(crate) fn answered(alloc: Global, answer: Result<(), CheckFault>) -> Result<Report, AllocError>
     ensures text { IfOk result (λ r. r.stdout.items ≡ answer_text answer) }
     ensures status { IfOk result (λ r. r.status ≡ (if is_ok answer then 0 else 1)) }
@@ -46,8 +47,8 @@ fn refused_binary(alloc: Global, fault: CheckFault) -> Result<Report, AllocError
     Ok(report)
 }
 
-/// The report of a check of a proof in binary form with this answer: status 0 at `Ok`, 1 at a fault. An error is want of memory, here or in
-/// the check.
+/// The report of a check of a proof in binary form, whose faults are told by step: status 0 at
+/// `Ok`, 1 at a fault. An error is want of memory, here or in the check.
 pub(crate) fn answered_binary(
     alloc: Global,
     answer: Result<(), CheckFault>,

@@ -1,7 +1,8 @@
 //! A check of a proof that comes in pieces, in either form.
 
 ghost use Rattle.std.specs.Prelude.{◌≡◌, ◌++◌, [], ℕ, List, true, IfOk};
-ghost use Rattle.dimacs.specs.text.Parser.{GivesFormula, parse};
+ghost use Rattle.dimacs.specs.logic.Limits.{AreNoMore, Limits, large, written};
+ghost use Rattle.dimacs.specs.text.Parser.{GivesFormula, parse_within};
 ghost use Rattle.node_main.specs.ProofChecks.{HasTaken, IsCheckReport, KeepsNoLine, has_fault};
 ghost use Rattle.node_main.specs.Truth.{SpellsUnsatisfiable};
 
@@ -15,13 +16,14 @@ use std::alloc::{AllocError, Global};
 use std::marker::Model;
 use std::mem;
 
-/// The state after the next piece of a proof. A fault of the input stays, and want of memory becomes a fault.
+/// The state of a check after the next piece of a proof. A fault of the input stays as it is, and
+/// want of memory becomes one.
 fn taken(
     alloc: Global,
     state: Result<Stage, DimacsFault>,
     piece: &[u8],
 ) -> Result<Stage, DimacsFault>
-    ensures taken { (input proof : List ℕ) → HasTaken input state proof → HasTaken input result (proof ++ piece.now) }
+    ensures taken { (L : Limits) (input proof : List ℕ) → HasTaken L input state proof → HasTaken L input result (proof ++ piece.now) }
     ensures kept { KeepsNoLine result }
 {
     let stage = match state {
@@ -36,7 +38,7 @@ fn taken(
 
 /// The report of the check in this state if no more bytes come. An error is want of memory.
 fn report_of(alloc: Global, state: &Result<Stage, DimacsFault>) -> Result<Report, AllocError>
-    ensures { (input proof : List ℕ) → HasTaken input state.now proof → IfOk result (IsCheckReport input proof) }
+    ensures { (L : Limits) (input proof : List ℕ) → HasTaken L input state.now proof → IfOk result (IsCheckReport L input proof) }
 {
     match state {
         Ok(stage) => stage.report(alloc),
@@ -71,15 +73,16 @@ impl Model for ProofCheck {
 impl ProofCheck {
     /// A check against the formula of this input; no byte of the proof is taken yet.
     pub fn new(alloc: Global, input: &[u8]) -> ProofCheck
-        ensures taken { HasTaken input.now result [] }
+        ensures taken { HasTaken written input.now result [] }
         ensures kept { KeepsNoLine result }
     {
         ProofCheck::of(alloc, read(alloc, input))
     }
 
     /// A check against an input that was read already, or has a fault; no byte of the proof is taken yet.
+    #[tactic(auto, using(crate::proofs::StartLemmas::spelled))]
     pub fn of(alloc: Global, found: Result<Formula, DimacsFault>) -> ProofCheck
-        ensures taken { (input : List ℕ) → GivesFormula found (parse input) → HasTaken input result [] }
+        ensures taken { (L : Limits) (input : List ℕ) → AreNoMore L large → GivesFormula found (parse_within L input) → HasTaken L input result [] }
         ensures kept { KeepsNoLine result }
     {
         let state = match found {
@@ -89,9 +92,9 @@ impl ProofCheck {
         ProofCheck { alloc, state }
     }
 
-    /// Takes the next piece of the proof.
+    /// Takes the next piece of the proof. A fault is kept for `finish`.
     pub fn feed(&mut self, piece: &[u8])
-        ensures taken { (input proof : List ℕ) → HasTaken input self.old proof → HasTaken input self.new (proof ++ piece.now) }
+        ensures taken { (L : Limits) (input proof : List ℕ) → HasTaken L input self.old proof → HasTaken L input self.new (proof ++ piece.now) }
         ensures kept { KeepsNoLine self.new }
     {
         let state = mem::replace(&mut self.state, Err(DimacsFault::from(AllocError)));
@@ -102,7 +105,7 @@ impl ProofCheck {
     /// have to be fed.
     pub fn is_settled(&self) -> bool
         ensures fault { result ≡ has_fault self.now }
-        ensures stays { result ≡ true → (input proof more : List ℕ) → HasTaken input self.now proof → HasTaken input self.now (proof ++ more) }
+        ensures stays { result ≡ true → (L : Limits) (input proof more : List ℕ) → HasTaken L input self.now proof → HasTaken L input self.now (proof ++ more) }
     {
         match &self.state {
             Ok(stage) => stage.is_settled(),
@@ -112,9 +115,9 @@ impl ProofCheck {
 
     /// The report of the check if no more bytes come. The error stands for the report `c no memory`, status 1.
     pub fn finish(&self) -> Result<Report, AllocError>
-        ensures report { (input proof : List ℕ) → HasTaken input self.now proof → IfOk result (IsCheckReport input proof) }
+        ensures report { (L : Limits) (input proof : List ℕ) → HasTaken L input self.now proof → IfOk result (IsCheckReport L input proof) }
         // So with status 0 the formula that the input spells is unsatisfiable.
-        ensures truth { (input proof : List ℕ) → HasTaken input self.now proof → IfOk result (λ r. r.status ≡ 0 → SpellsUnsatisfiable input) }
+        ensures truth { (L : Limits) (input proof : List ℕ) → HasTaken L input self.now proof → IfOk result (λ r. r.status ≡ 0 → SpellsUnsatisfiable L input) }
     {
         accepted_proofs_are_sound();
         accepted_binary_proofs_are_sound();

@@ -1,7 +1,8 @@
 //! The stage of a check: no byte of the proof was taken, or the checker of the proof's form, text or binary, is at work.
 
-ghost use Rattle.std.specs.Prelude.{◌≡◌, ◌++◌, ℕ, true, List, Ok, IfOk};
-ghost use Rattle.dimacs.specs.text.Parser.{parse};
+ghost use Rattle.std.specs.Prelude.{◌≡◌, ◌++◌, ℕ, true, List, IfOk};
+ghost use Rattle.dimacs.specs.logic.Limits.{Limits};
+ghost use Rattle.dimacs.specs.text.Grammar.{SpellsWithin};
 ghost use Rattle.dimacs.specs.logic.Cnf.{Cnf};
 ghost use Rattle.node_main.specs.Forms.{is_letter};
 ghost use Rattle.node_main.specs.ProofChecks.{IsCheckReport, IsShort, Reaches, has_met};
@@ -39,7 +40,8 @@ fn is_letter(byte: u8) -> bool
     byte == b'a' || byte == b'd'
 }
 
-/// The checker of a proof of this formula that begins with the byte `first`; the checker has taken no byte. An error is want of memory.
+/// The checker for a proof whose first byte is `first`: of binary form, or of text. It has taken no
+/// byte yet. An error is want of memory.
 fn begun(alloc: Global, formula: Formula, first: u8) -> Result<Stage, AllocError>
     ensures { IfOk result (λ stage. IsBegun formula (is_letter first) stage) }
 {
@@ -97,7 +99,7 @@ impl Stage {
 
     /// The report of the check if no more bytes come. An error is want of memory.
     pub(crate) fn report(&self, alloc: Global) -> Result<Report, AllocError>
-        ensures { (input proof : List ℕ) (F : Cnf) → parse input ≡ Ok F → Reaches F self.now proof → IfOk result (IsCheckReport input proof) }
+        ensures { (L : Limits) (input proof : List ℕ) (F : Cnf) → SpellsWithin L input F → Reaches F self.now proof → IfOk result (IsCheckReport L input proof) }
     {
         match self {
             Stage::Awaiting(_) => answered(alloc, Err(NOTHING)),

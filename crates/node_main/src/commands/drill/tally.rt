@@ -5,8 +5,8 @@ ghost use Rattle.node_main.specs.DrillSchedule.{DrillState, TakesTurn};
 ghost use Rattle.node_main.specs.DrillReports.{drill_status};
 ghost use Rattle.node_main.specs.inner.Tallies.{HasRoom, IsTally, counted};
 
-use super::kinds::{Kinds, kinds_of};
 use super::turn::{drawn_event, is_refusal, next_after, react};
+use super::verdict_kinds::{Kinds, kinds_of};
 use cluster::ClosedCluster;
 use std::alloc::AllocError;
 
@@ -23,7 +23,7 @@ pub(crate) struct Tally {
     pub(crate) disagreements: u64,
 }
 
-/// The count `old`, one higher if `is_so` is true.
+/// The count `old`, raised by one if `is_so` is true.
 fn counted(old: u64, is_so: bool) -> u64
     requires { old + 1 < 2 ^ 64 }
     ensures { result ≡ counted old is_so }

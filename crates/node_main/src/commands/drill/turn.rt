@@ -10,7 +10,8 @@ use honest_cluster::{ClosedEvent, closed_clusters_keep_their_word};
 use lrat_check::Reaction;
 use std::alloc::AllocError;
 
-/// The event that delivers frame `b` modulo `frames` to a node; `None` if there are no frames.
+/// The event that delivers a frame which some poll has returned, number `b` modulo `frames`, to a
+/// node; `None` if there is no frame yet.
 fn delivery(b: u64, node: usize, frames: usize) -> Option<ClosedEvent>
     ensures { result ≡ delivery b node frames }
 {
@@ -21,7 +22,8 @@ fn delivery(b: u64, node: usize, frames: usize) -> Option<ClosedEvent>
     Some(ClosedEvent::Deliver { node, place })
 }
 
-/// The event that restarts a node under the number `next`; `None` unless `b` is a multiple of 16.
+/// The event that restarts a node under the number `next`; `None` unless `b` is a multiple of 16,
+/// so that restarts are rare.
 fn renewal(b: u64, node: usize, next: u64) -> Option<ClosedEvent>
     ensures { result ≡ renewal b node next }
 {
@@ -70,7 +72,8 @@ pub(crate) fn next_after(event: Option<ClosedEvent>, next: u64) -> u64
     }
 }
 
-/// Recalls for proofs that some closed schedule led to this cluster: the contract of `verdict` says so.
+/// A step of proofs: the contract of `verdict` says that some closed schedule led to this cluster.
+/// It does nothing at run time.
 pub(crate) fn recall_schedule(cluster: &ClosedCluster)
     ensures { IsReached cluster.now }
 {

@@ -2,7 +2,7 @@ use Rattle.std.proofs.Common.{◌≡◌, ◌+◌, ◌-◌, ◌++◌, ◌∷◌, 
 use Rattle.std.proofs.lemmas.Bool.{MatchBool-at_true, MatchBool-at_false}
 use Rattle.std.proofs.lemmas.List.{append-nil}
 use Rattle.std.proofs.lemmas.Result.{err_from_is_err_and}
-use Rattle.lrat_text.specs.Grammar.{SpellsStep}
+use Rattle.lrat_text.specs.Grammar.{SpellsStepWithin}
 use Rattle.lrat_text.specs.Lines.{IsCut}
 use Rattle.lrat_text.specs.Log.{top_after}
 use Rattle.lrat_text.specs.WrittenLine.{line_of}
@@ -16,20 +16,20 @@ use Rattle.proof_join.proofs.lines.put_fragment.Goals as goal
 
 pub put_fragment_line-requires-clause-spelled : goal.put_fragment_line-requires-clause-spelled
 put_fragment_line-requires-clause-spelled c =
-    let n = next_line c.loop-last.lines c.deref.result.now c.next.new.self (subst (λ (l : List ℕ). IsCut c.loop-last.lines l c.next.new.self) (sym c.deref.ensures.value) (MatchBool-at_true _ _ c.if-branch.true c.in_ok-next.ensures)) c.loop-last.invariant.spelled in
+    let n = next_line 199999999 (omega arith) c.loop-last.lines c.deref.result.now c.next.new.self (subst (λ (l : List ℕ). IsCut c.loop-last.lines l c.next.new.self) (sym c.deref.ensures.value) (MatchBool-at_true _ _ c.if-branch.true c.in_ok-next.ensures)) c.loop-last.invariant.spelled in
     (n.step, n.spells)
 
 pub put_fragment_line-requires-clause-low : goal.put_fragment_line-requires-clause-low
 put_fragment_line-requires-clause-low c = λ step s.
     let i = c.loop-last.invariant in
     let k : ℕ = c.args.shift.base + (c.loop-last.top - c.args.shift.begun) in
-    let n = next_line c.loop-last.lines c.deref.result.now c.next.new.self (subst (λ (l : List ℕ). IsCut c.loop-last.lines l c.next.new.self) (sym c.deref.ensures.value) (MatchBool-at_true _ _ c.if-branch.true c.in_ok-next.ensures)) i.spelled in
-    subst (IsLow k) (read_same c.deref.result.now n.step step n.spells s) (subst (AreLow k) n.steps i.low).0
+    let n = next_line 199999999 (omega arith) c.loop-last.lines c.deref.result.now c.next.new.self (subst (λ (l : List ℕ). IsCut c.loop-last.lines l c.next.new.self) (sym c.deref.ensures.value) (MatchBool-at_true _ _ c.if-branch.true c.in_ok-next.ensures)) i.spelled in
+    subst (IsLow k) (read_same 199999999 (omega arith) c.deref.result.now n.step step n.spells s) (subst (AreLow k) n.steps i.low).0
 
 pub returns-in_err-top-clause-text : goal.returns-in_err-top-clause-text
 returns-in_err-top-clause-text c =
     let i = c.loop-last.invariant in
-    let n = next_line c.loop-last.lines c.deref.result.now c.next.new.self (subst (λ (l : List ℕ). IsCut c.loop-last.lines l c.next.new.self) (sym c.deref.ensures.value) (MatchBool-at_true _ _ c.if-branch.true c.in_ok-next.ensures)) i.spelled in
+    let n = next_line 199999999 (omega arith) c.loop-last.lines c.deref.result.now c.next.new.self (subst (λ (l : List ℕ). IsCut c.loop-last.lines l c.next.new.self) (sym c.deref.ensures.value) (MatchBool-at_true _ _ c.if-branch.true c.in_ok-next.ensures)) i.spelled in
     let r : Step → Step = renumbered (behind c.args.shift.base c.args.shift.begun) in
     let whole : List ℕ = c.args.out.now ++ text_of c.args.shift.begun (map r (steps_in c.args.fragment.now)) in
     let p = err_from_is_err_and c.from_residual-in_err-top.result c.from_residual-in_err-top.ensures.1 in
@@ -39,7 +39,7 @@ returns-in_err-top-clause-text c =
 pub loop-last-preserved : goal.loop-last-preserved
 loop-last-preserved c =
     let i = c.loop-last.invariant in
-    let n = next_line c.loop-last.lines c.deref.result.now c.next.new.self (subst (λ (l : List ℕ). IsCut c.loop-last.lines l c.next.new.self) (sym c.deref.ensures.value) (MatchBool-at_true _ _ c.if-branch.true c.in_ok-next.ensures)) i.spelled in
+    let n = next_line 199999999 (omega arith) c.loop-last.lines c.deref.result.now c.next.new.self (subst (λ (l : List ℕ). IsCut c.loop-last.lines l c.next.new.self) (sym c.deref.ensures.value) (MatchBool-at_true _ _ c.if-branch.true c.in_ok-next.ensures)) i.spelled in
     let b : ℕ = c.args.shift.base in
     let t : ℕ = c.args.shift.begun in
     let r : Step → Step = renumbered (behind b t) in
@@ -61,7 +61,7 @@ loop-last-preserved c =
     let few = i.few in
     record {
       text = text_on b t top number out after whole n.step rest later n.steps wrote.0 is i.text;
-      last = (n.step, subst (λ (l : Vec ℕ Global). SpellsStep l.items n.step) (sym c.swap.ensures.y_after) (subst (λ (l : List ℕ). SpellsStep l n.step) c.deref.ensures.value n.spells), last_at c.loop-last.some c.loop-last.last.items c.loop-last.scratch.buffer c.args.scratch.now.buffer (last_of c.args.scratch.now.buffer (steps_in c.args.fragment.now)) n.step rest later n.steps i.last);
+      last = (n.step, subst (λ (l : Vec ℕ Global). SpellsStepWithin 199999999 l.items n.step) (sym c.swap.ensures.y_after) (subst (λ (l : List ℕ). SpellsStepWithin 199999999 l n.step) c.deref.ensures.value n.spells), last_at c.loop-last.some c.loop-last.last.items c.loop-last.scratch.buffer c.args.scratch.now.buffer (last_of c.args.scratch.now.buffer (steps_in c.args.fragment.now)) n.step rest later n.steps i.last);
       top = top_of_on b t top number out after whole n.step rest later n.steps is (top_of t (map r (steps_in c.args.fragment.now))) i.top;
       spelled = n.spelled;
       low = subst (λ (k : ℕ). AreLow k later) up.0 low.1;
@@ -73,7 +73,7 @@ loop-last-preserved c =
 pub returns-in-Ok-clause-text : goal.returns-in-Ok-clause-text
 returns-in-Ok-clause-text c =
     let i = c.loop-last.invariant in
-    let e = no_line c.loop-last.lines (MatchBool-at_false _ _ c.if-branch.false c.in_ok-next.ensures).0 i.spelled in
+    let e = no_line 199999999 c.loop-last.lines (MatchBool-at_false _ _ c.if-branch.false c.in_ok-next.ensures).0 i.spelled in
     let r : Step → Step = renumbered (behind c.args.shift.base c.args.shift.begun) in
     let whole : List ℕ = c.args.out.now ++ text_of c.args.shift.begun (map r (steps_in c.args.fragment.now)) in
     let f : c.loop-last.out ≡ whole =
@@ -85,12 +85,12 @@ returns-in-Ok-clause-text c =
 pub returns-in-Ok-clause-top : goal.returns-in-Ok-clause-top
 returns-in-Ok-clause-top c =
     let i = c.loop-last.invariant in
-    let e = no_line c.loop-last.lines (MatchBool-at_false _ _ c.if-branch.false c.in_ok-next.ensures).0 i.spelled in
+    let e = no_line 199999999 c.loop-last.lines (MatchBool-at_false _ _ c.if-branch.false c.in_ok-next.ensures).0 i.spelled in
     ap (λ (ss : List Step). top_of c.loop-last.top (map (renumbered (behind c.args.shift.base c.args.shift.begun)) ss)) (sym e) ∙ i.top
 
 pub returns-in-Ok-clause-last : goal.returns-in-Ok-clause-last
 returns-in-Ok-clause-last c =
     let i = c.loop-last.invariant in
-    let e = no_line c.loop-last.lines (MatchBool-at_false _ _ c.if-branch.false c.in_ok-next.ensures).0 i.spelled in
+    let e = no_line 199999999 c.loop-last.lines (MatchBool-at_false _ _ c.if-branch.false c.in_ok-next.ensures).0 i.spelled in
     last_read c.loop-last.some c.loop-last.last.items c.loop-last.scratch.buffer c.args.scratch.now.buffer c.read_last.new.buffer (last_of c.args.scratch.now.buffer (steps_in c.args.fragment.now))
-    (steps_in c.loop-last.lines) e (subst (λ (l : List ℕ). MatchBool c.loop-last.some (SpellsStep l c.read_last.new.buffer) (c.read_last.new.buffer ≡ c.loop-last.scratch.buffer)) c.deref-2.ensures.value c.in-Ok.ensures) i.last
+    (steps_in c.loop-last.lines) e (subst (λ (l : List ℕ). MatchBool c.loop-last.some (SpellsStepWithin 199999999 l c.read_last.new.buffer) (c.read_last.new.buffer ≡ c.loop-last.scratch.buffer)) c.deref-2.ensures.value c.in-Ok.ensures) i.last

@@ -1,5 +1,5 @@
 use Rattle.std.proofs.Common.{◌≡◌, ◌+◌, ◌-◌, ◌≤◌, ◌<◌, ◌^◌, ◌++◌, map, length}
-use Rattle.lrat_text.specs.Grammar.{LineSpells}
+use Rattle.lrat_text.specs.Grammar.{LineSpellsWithin}
 use Rattle.lrat_text.specs.Runs.{text_of, top_of}
 use Rattle.proof_join.specs.RenumberedSteps.{behind, renumbered}
 use Rattle.proof_join.specs.Steps.{steps_in}
@@ -13,7 +13,7 @@ invariant-loop-last l = record {
       ≡ l.fn.out ++ text_of l.shift.begun (map (renumbered (behind l.shift.base l.shift.begun)) (steps_in l.fn.fragment));
   last : LastIs l.some l.last.items l.scratch.buffer l.fn.scratch.buffer (last_of l.fn.scratch.buffer (steps_in l.fn.fragment)) (steps_in l.lines);
   top : top_of l.top (map (renumbered (behind l.shift.base l.shift.begun)) (steps_in l.lines)) ≡ top_of l.shift.begun (map (renumbered (behind l.shift.base l.shift.begun)) (steps_in l.fn.fragment));
-  spelled : LineSpells l.lines (steps_in l.lines);
+  spelled : LineSpellsWithin 199999999 l.lines (steps_in l.lines);
   low : AreLow (l.shift.base + (l.top - l.shift.begun)) (steps_in l.lines);
   begun : l.shift.begun ≤ l.top;
   few : l.top ≤ l.shift.base + length l.out;

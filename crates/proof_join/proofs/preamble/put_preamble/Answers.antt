@@ -17,7 +17,7 @@ use Rattle.proof_join.proofs.preamble.put_preamble.Goals as goal
 
 pub put_units-requires-clause-within : goal.put_units-requires-clause-within
 put_units-requires-clause-within c =
-    subst (λ (ls : List Literal). All (IsWithin 2000000) ls) (sym (c.units.ensures.value ∙ c.requires.units)) (pure_small c.args.formula.now c.vars-vars.ensures.valid.vars)
+    subst (λ (ls : List Literal). All (IsWithin 199999999) ls) (sym (c.units.ensures.value ∙ c.requires.units)) (pure_small c.args.formula.now c.vars-vars.ensures.valid.vars)
 
 pub returns-in_err-top-clause-text : goal.returns-in_err-top-clause-text
 returns-in_err-top-clause-text c =

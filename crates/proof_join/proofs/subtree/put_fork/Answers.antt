@@ -22,7 +22,7 @@ put_line-requires-clause-limits c =
     let r0 = r.0 in
     let r1 = r.1 in (
       (omega arith, omega arith),
-      subst (All (IsWithin 2000000)) (sym (c.deref-5.ensures.value ∙ is)) (resolvent_small c.args.path.now c.args.left.clause.items c.args.right.clause.items l.2 r.2),
+      subst (All (IsWithin 199999999)) (sym (c.deref-5.ensures.value ∙ is)) (resolvent_small 199999999 c.args.path.now c.args.left.clause.items c.args.right.clause.items l.2 r.2),
       two_numbers c.args.left.id c.args.right.id (omega arith, omega arith) (omega arith, omega arith),
       subst (λ (gs : List Group). All IsGroup gs) (sym c.new-groups.ensures) (All-nil IsGroup),
     )
@@ -33,4 +33,4 @@ returns-clause-small c =
     c.in_ok-clause.ensures ∙ ap (λ (C : Clause). resolvent c.args.path.now C c.deref-4.result.now) c.deref-3.ensures.value ∙ ap (λ (D : Clause). resolvent c.args.path.now c.args.left.clause.items D) c.deref-4.ensures.value in
     let l = c.requires.left in
     let r = c.requires.right in
-    (omega arith, omega arith, subst (All (IsWithin 2000000)) (sym is) (resolvent_small c.args.path.now c.args.left.clause.items c.args.right.clause.items l.2 r.2))
+    (omega arith, omega arith, subst (All (IsWithin 199999999)) (sym is) (resolvent_small 199999999 c.args.path.now c.args.left.clause.items c.args.right.clause.items l.2 r.2))

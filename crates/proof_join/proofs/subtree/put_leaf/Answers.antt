@@ -21,4 +21,4 @@ returns-clause-small c =
     let begun = c.requires.begun in
     let b = begun.0 in
     let d = begun.1 in
-    (omega arith, omega arith, subst (All (IsWithin 2000000)) (sym e) (ends_small c.args.fragment.now (steps_in c.args.fragment.now) c.requires.fragment.own.spelled c.requires.fragment.ends))
+    (omega arith, omega arith, subst (All (IsWithin 199999999)) (sym e) (ends_small 199999999 c.args.fragment.now (steps_in c.args.fragment.now) c.requires.fragment.own.spelled c.requires.fragment.ends))

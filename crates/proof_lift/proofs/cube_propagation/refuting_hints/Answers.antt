@@ -9,26 +9,26 @@ use Rattle.proof_lift.specs.declared.cube_propagation.Look.{Look}
 use Rattle.proof_lift.specs.declared.cube_propagation.Reached.{Reached}
 use Rattle.proof_lift.proofs.ReachedLemmas.{gives_none, reached_then, places_then, stands_fit}
 use Rattle.proof_lift.proofs.cube_propagation.refuting_hints.Goals as goal
-use Rattle.proof_lift.proofs.cube_propagation.refuting_hints.Goals.{then-are_numbers+in_ok-pass+in_default, else-are_numbers}
+use Rattle.proof_lift.proofs.cube_propagation.refuting_hints.Goals.{then-numbers_fit+in_ok-visit_all+in_default, else-numbers_fit}
 
-pub pass-requires-clause-fits : goal.pass-requires-clause-fits
-pass-requires-clause-fits c = stands_fit c.args.places (vec_len c.in_ok-reached.reached.truth) (images_of c.args.images.now) c.in_ok-reached.ensures.places c.requires.fits
+pub visit_all-requires-clause-fits : goal.visit_all-requires-clause-fits
+visit_all-requires-clause-fits c = stands_fit c.args.places (vec_len c.in_ok-reached.reached.truth) (images_of c.args.images.now) c.in_ok-reached.ensures.places c.requires.fits
 
 pub returns-in-Conflict : goal.returns-in-Conflict
 returns-in-Conflict c =
     let T = images_of c.args.images.now in
     let A = negations (union c.args.cube.now []) in
-    subst (λ (k : Look). ComesTo T A c.deref-then-are_numbers.result.now c.in_ok-reached.reached c.pass.new.self k) c.in-Conflict.is (c.in_ok-pass.ensures.comes A (c.in_ok-reached.ensures.reached T))
+    subst (λ (k : Look). ComesTo T A c.deref-then-numbers_fit.result.now c.in_ok-reached.reached c.visit_all.new.self k) c.in-Conflict.is (c.in_ok-visit_all.ensures.comes A (c.in_ok-reached.ensures.reached T))
 
-pub settle-requires-clause-fits : goal.settle-requires-clause-fits
-settle-requires-clause-fits c =
+pub propagate-requires-clause-fits : goal.propagate-requires-clause-fits
+propagate-requires-clause-fits c =
     let T = images_of c.args.images.now in
     let fits = stands_fit c.args.places (vec_len c.in_ok-reached.reached.truth) T c.in_ok-reached.ensures.places c.requires.fits in
-    elim c.if-are_numbers.branch [
-      | then-are_numbers+in_ok-pass+in_default w ↦
+    elim c.if-numbers_fit.branch [
+      | then-numbers_fit+in_ok-visit_all+in_default w ↦
           subst (λ (x : Reached). ImagesFit (vec_len x.truth) T) (sym w.reached-is)
-          (subst (λ (n : ℕ). ImagesFit n T) (sym (places_then c.in_ok-reached.reached w.pass.new.self w.in_ok-pass.field-0 w.in_default.not-Conflict w.in_ok-pass.ensures.shifts)) fits)
-      | else-are_numbers w ↦ subst (λ (x : Reached). ImagesFit (vec_len x.truth) T) (sym w.reached-is) fits
+          (subst (λ (n : ℕ). ImagesFit n T) (sym (places_then c.in_ok-reached.reached w.visit_all.new.self w.in_ok-visit_all.field-0 w.in_default.not-Conflict w.in_ok-visit_all.ensures.shifts)) fits)
+      | else-numbers_fit w ↦ subst (λ (x : Reached). ImagesFit (vec_len x.truth) T) (sym w.reached-is) fits
     ]
 
 pub returns-then-branch : goal.returns-then-branch
@@ -36,25 +36,25 @@ returns-then-branch c =
     let T = images_of c.args.images.now in
     let A = negations (union c.args.cube.now []) in
     let begun = c.in_ok-reached.ensures.reached T in
-    let joined : IsReached T A c.if-are_numbers.reached = elim c.if-are_numbers.branch [
-      | then-are_numbers+in_ok-pass+in_default w ↦
+    let joined : IsReached T A c.if-numbers_fit.reached = elim c.if-numbers_fit.branch [
+      | then-numbers_fit+in_ok-visit_all+in_default w ↦
           subst (λ (x : Reached). IsReached T A x) (sym w.reached-is)
-          (reached_then T A w.deref-then-are_numbers.result.now c.in_ok-reached.reached w.pass.new.self w.in_ok-pass.field-0 w.in_default.not-Conflict w.in_ok-pass.ensures.shifts (w.in_ok-pass.ensures.comes A begun) begun)
-      | else-are_numbers w ↦ subst (λ (x : Reached). IsReached T A x) (sym w.reached-is) begun
+          (reached_then T A w.deref-then-numbers_fit.result.now c.in_ok-reached.reached w.visit_all.new.self w.in_ok-visit_all.field-0 w.in_default.not-Conflict w.in_ok-visit_all.ensures.shifts (w.in_ok-visit_all.ensures.comes A begun) begun)
+      | else-numbers_fit w ↦ subst (λ (x : Reached). IsReached T A x) (sym w.reached-is) begun
     ] in
-    subst (λ (b : Bool). EndsAs T A c.deref-3.result.now c.settle.new.self b) c.if-branch.true (c.in_ok-settle.ensures A joined)
+    subst (λ (b : Bool). EndsAs T A c.deref-3.result.now c.propagate.new.self b) c.if-branch.true (c.in_ok-propagate.ensures A joined)
 
 pub returns : goal.returns
 returns c =
     let T = images_of c.args.images.now in
     let A = negations (union c.args.cube.now []) in
     let begun = c.in_ok-reached.ensures.reached T in
-    let joined : IsReached T A c.if-are_numbers.reached = elim c.if-are_numbers.branch [
-      | then-are_numbers+in_ok-pass+in_default w ↦
+    let joined : IsReached T A c.if-numbers_fit.reached = elim c.if-numbers_fit.branch [
+      | then-numbers_fit+in_ok-visit_all+in_default w ↦
           subst (λ (x : Reached). IsReached T A x) (sym w.reached-is)
-          (reached_then T A w.deref-then-are_numbers.result.now c.in_ok-reached.reached w.pass.new.self w.in_ok-pass.field-0 w.in_default.not-Conflict w.in_ok-pass.ensures.shifts (w.in_ok-pass.ensures.comes A begun) begun)
-      | else-are_numbers w ↦ subst (λ (x : Reached). IsReached T A x) (sym w.reached-is) begun
+          (reached_then T A w.deref-then-numbers_fit.result.now c.in_ok-reached.reached w.visit_all.new.self w.in_ok-visit_all.field-0 w.in_default.not-Conflict w.in_ok-visit_all.ensures.shifts (w.in_ok-visit_all.ensures.comes A begun) begun)
+      | else-numbers_fit w ↦ subst (λ (x : Reached). IsReached T A x) (sym w.reached-is) begun
     ] in
-    let e : EndsAs T A c.deref-3.result.now c.settle.new.self false = subst (λ (b : Bool). EndsAs T A c.deref-3.result.now c.settle.new.self b) c.if-branch.false (c.in_ok-settle.ensures A joined) in
-    gives_none T c.args.cube.now c.deref-3.result.now c.settle.new.self
+    let e : EndsAs T A c.deref-3.result.now c.propagate.new.self false = subst (λ (b : Bool). EndsAs T A c.deref-3.result.now c.propagate.new.self b) c.if-branch.false (c.in_ok-propagate.ensures A joined) in
+    gives_none T c.args.cube.now c.deref-3.result.now c.propagate.new.self
     (λ n i D at u. subst (λ (ns : List ℕ). Contains ns n) (sym c.deref-3.ensures.value) (c.in_ok-numbers.ensures.all n i D at u)) e.0 e.1

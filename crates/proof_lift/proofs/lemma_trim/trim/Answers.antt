@@ -10,12 +10,12 @@ pub is_marked-requires : goal.is_marked-requires
 is_marked-requires c =
     let below : c.loop-i.i - 1 < length c.args.chain.now = omega (arith, c.loop-i.invariant.inside, c.loop-i-test.true) in
     unit_at (length c.loop-i.marks) (images_of c.args.images.now) c.index-chain-i.result
-    (chain_at (length c.args.marks.now) (length c.loop-i.marks) (images_of c.args.images.now) c.args.chain.now (c.loop-i.i - 1) c.index-chain-i.result below c.index-chain-i.is c.requires.chain (c.loop-i.auto.marks ∙ c.use_all.ensures.places))
+    (chain_at (length c.args.marks.now) (length c.loop-i.marks) (images_of c.args.images.now) c.args.chain.now (c.loop-i.i - 1) c.index-chain-i.result below c.index-chain-i.is c.requires.chain (c.loop-i.auto.marks ∙ c.mark_negations.ensures.places))
 
-pub count-number-requires-clause-table : goal.count-number-requires-clause-table
-count-number-requires-clause-table c =
+pub keep_hint-number-requires-clause-table : goal.keep_hint-number-requires-clause-table
+keep_hint-number-requires-clause-table c =
     let below : c.loop-i.i - 1 < length c.args.chain.now = omega (arith, c.loop-i.invariant.inside, c.loop-i-test.true) in
-    chain_at (length c.args.marks.now) (length c.loop-i.marks) (images_of c.args.images.now) c.args.chain.now (c.loop-i.i - 1) c.index-chain-i.result below c.index-chain-i.is c.requires.chain (c.loop-i.auto.marks ∙ c.use_all.ensures.places)
+    chain_at (length c.args.marks.now) (length c.loop-i.marks) (images_of c.args.images.now) c.args.chain.now (c.loop-i.i - 1) c.index-chain-i.result below c.index-chain-i.is c.requires.chain (c.loop-i.auto.marks ∙ c.mark_negations.ensures.places)
 
 pub loop-i-preserved : goal.loop-i-preserved
 loop-i-preserved c =

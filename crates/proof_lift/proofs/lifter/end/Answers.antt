@@ -1,5 +1,5 @@
 use Rattle.proof_lift.specs.View.{held_of}
-use Rattle.std.proofs.Common.{◌+◌, [], inl, inr, refl, sym, subst, true, false, arith}
+use Rattle.std.proofs.Common.{◌+◌, ◌≤◌, [], inl, inr, refl, sym, subst, true, false, arith}
 use Rattle.std.specs.Bool.{MatchBool}
 use Rattle.std.proofs.lemmas.List.{append-nil}
 use Rattle.lrat_text.specs.Runs.{text_of}
@@ -22,7 +22,8 @@ returns-in-Ok-true c =
     let closed : IsClosed c.args.lifting.now c.close.new.self c.args.out.now.items c.close.new.out.items
     = subst (λ b. MatchBool b (IsClosed c.args.lifting.now c.close.new.self c.args.out.now.items c.close.new.out.items) (NothingCloses c.args.lifting.now)) c.in-Ok-true.field-0-test c.in-Ok-true.ensures.closed in
     let w = closed.writes in
-    (text_of h.own w.0, w.2, closed_by h c.args.line (h.top + 1) c.args.rest.now closed.hints w.0 _ none c.if-lifting.false closed.limits w.1)
+    let few : h.formula.vars ≤ 199999999 = omega (arith, c.vars.ensures.valid.vars) in
+    (text_of h.own w.0, w.2, closed_by h c.args.line (h.top + 1) c.args.rest.now closed.hints w.0 _ few none c.if-lifting.false closed.limits w.1)
 
 pub returns-in-Ok-false : goal.returns-in-Ok-false
 returns-in-Ok-false c =
@@ -30,7 +31,8 @@ returns-in-Ok-false c =
     let h = held_of c.args.lifting.now in
     let nothing : NothingCloses c.args.lifting.now
     = subst (λ b. MatchBool b (IsClosed c.args.lifting.now c.close.new.self c.args.out.now.items c.close.new.out.items) (NothingCloses c.args.lifting.now)) c.in-Ok-false.field-0-test c.in-Ok-false.ensures.closed in
+    let few : h.formula.vars ≤ 199999999 = omega (arith, c.vars.ensures.valid.vars) in
     inr (record {
       first = end_is h c.args.line c.args.rest.now false none c.if-lifting.false;
-      wanting = λ e out. nothing_ends h c.args.line c.args.rest.now out none c.if-lifting.false nothing;
+      wanting = λ e out. nothing_ends h c.args.line c.args.rest.now out few none c.if-lifting.false nothing;
     })

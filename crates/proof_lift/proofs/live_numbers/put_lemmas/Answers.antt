@@ -8,7 +8,7 @@ use Rattle.proof_lift.proofs.live_numbers.put_lemmas.Goals as goal
 
 pub loop-number-preserved : goal.loop-number-preserved
 loop-number-preserved c =
-    let p = c.in_ok-put.ensures in
+    let p = c.in_ok-push_live.ensures in
     let step = rest_more deref_pair c.loop-number.number-iterator c.next.new.self c.next.result (c.in-Some.number, c.in-Some._own) c.in-Some.is c.next.ensures.steps in
     record {
       numbers = λ h. p.numbers (c.loop-number.invariant.numbers h);

@@ -3,7 +3,7 @@ use Rattle.dimacs.specs.logic.Literal.{Literal}
 use Rattle.dimacs.specs.logic.Propagation.{Assumed}
 use Rattle.lrat_check.specs.inner.Marks.{assumed_by}
 use Rattle.lrat_check.proofs.Free.{status-more, status-more_false, none_true-more}
-use Rattle.proof_lift.specs.inner.Statuses.{status_in}
+use Rattle.lrat_check.specs.Statuses.{status_in}
 use Rattle.proof_lift.proofs.status.classify.Goals as goal
 use Rattle.proof_lift.proofs.status.classify.Goals.{then-not-is_marked, else-not-is_marked}
 

@@ -2,7 +2,7 @@ use Rattle.std.proofs.Common.{◌≡◌, false, take}
 use Rattle.std.specs.List.{list_any}
 use Rattle.lrat_check.specs.inner.Marks.{assumed_by}
 use Rattle.lrat_check.specs.StepFaults.{not_false, status_of_free}
-use Rattle.proof_lift.specs.inner.Statuses.{status_in}
+use Rattle.lrat_check.specs.Statuses.{status_in}
 use Rattle.proof_lift.proofs.status.classify.Given as goal
 
 abbrev pub invariant-loop-l : goal.invariant-loop-l

@@ -11,7 +11,7 @@ returns-clause-accepted c =
     let text = c.args.text.now in
     given_ok c.finish.result (check_of F text) (Accepts F text)
     (finished F c.in_ok-checker.checker.stream text c.finish.result c.in_ok-checker.ensures c.finish.ensures)
-    (checked_accepted c.reading_is_spelling.ensures.found c.reading_is_spelling.ensures.only F text)
+    (checked_accepted c.reading_within_is_spelling.ensures.found c.reading_within_is_spelling.ensures.only F text)
 
 pub returns-clause-complete : goal.returns-clause-complete
 returns-clause-complete c = λ accepts.
@@ -19,4 +19,4 @@ returns-clause-complete c = λ accepts.
     let text = c.args.text.now in
     given_complete c.finish.result (check_of F text)
     (finished F c.in_ok-checker.checker.stream text c.finish.result c.in_ok-checker.ensures c.finish.ensures)
-    (accepted_checked c.reading_is_spelling.ensures.found c.reading_is_spelling.ensures.only F text accepts)
+    (accepted_checked c.reading_within_is_spelling.ensures.found c.reading_within_is_spelling.ensures.only F text (c.vars.ensures.valid).vars accepts)

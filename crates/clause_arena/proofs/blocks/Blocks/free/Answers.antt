@@ -8,11 +8,11 @@ index_mut-requires c = omega (arith, has_block (λ b. b.items) _ _ c.args.place 
 pub invariant_of-self : goal.invariant_of-self
 invariant_of-self c =
     let short = has_short (λ b. b.items) _ _ c.args.place _ c.self.invariant c.self.view_is c.requires c.index_mut.result.now in
-    changed_blocks (λ b. b.items) _ _ c.args.place _ c.self.invariant c.self.view_is c.requires c.free.new.block c.index_mut.result.now
-    (λ k ne. c.free.ensures.others k ne ∙ ap (λ b. get_or b.items k None) c.index_mut.ensures.value)
-    (omega (arith, c.free.ensures.len, ap (λ b. length b.items) c.index_mut.ensures.value, short))
+    changed_blocks (λ b. b.items) _ _ c.args.place _ c.self.invariant c.self.view_is c.requires c.free_cell.new.block c.index_mut.result.now
+    (λ k ne. c.free_cell.ensures.others k ne ∙ ap (λ b. get_or b.items k None) c.index_mut.ensures.value)
+    (omega (arith, c.free_cell.ensures.len, ap (λ b. length b.items) c.index_mut.ensures.value, short))
 
 pub returns : goal.returns
 returns c =
-    changed (λ b. b.items) _ _ c.args.place _ c.self.invariant c.self.view_is c.requires c.free.new.block c.index_mut.result.now
-    (λ k ne. c.free.ensures.others k ne ∙ ap (λ b. get_or b.items k None) c.index_mut.ensures.value) None c.free.ensures.here
+    changed (λ b. b.items) _ _ c.args.place _ c.self.invariant c.self.view_is c.requires c.free_cell.new.block c.index_mut.result.now
+    (λ k ne. c.free_cell.ensures.others k ne ∙ ap (λ b. get_or b.items k None) c.index_mut.ensures.value) None c.free_cell.ensures.here

@@ -10,7 +10,7 @@ loop-self-preserved c =
     let l = c.loop-self in
     let t = l.self in
     let i = l.invariant in
-    let more = c.in_ok-grow.ensures.ok in
+    let more = c.in_ok-push_free_cell.ensures.ok in
     record {
       same = ap (λ xs. slots_of (with_near t xs)) more ∙ slots_of-push t ∙ i.same;
       apart = subst (λ xs. IsApart (with_near t xs)) (sym more)

@@ -8,4 +8,4 @@ invariant_of-result c =
     let begun = c.in_ok-new.ensures in
     subst IsReached (sym begun.3)
     (new_reached (record { formula = c.args.formula.now; definitions = begun.0; tree = c.args.tree; limit = c.args.limit; workers = c.args.workers }) c.args.defs
-    c.vars.ensures.valid begun.1 begun.2 c.leaves.ensures.valid c.requires.inside c.requires.workers)
+    c.vars.ensures.valid begun.1 begun.2 c.leaves.ensures.valid c.requires.inside c.requires.narrow c.requires.workers)

@@ -11,12 +11,12 @@ loop-i-init g c = λ disk options F cubes list h.
 
 pub loop-i-preserved : goal.loop-i-preserved
 loop-i-preserved g c = λ disk options F cubes list h.
-    let new = c.put.new.listing in
+    let new = c.take_byte.new.listing in
     let piece = c.args.piece.now in
     let i = c.loop-i.i in
     let P : List ℕ → Type 0 = λ bytes. IsListing g.D.Drafts.made g.D.Disk.holds g.D.Drafts.apart disk options F cubes bytes new.run.joined.disk.now new.run.joined.join new.run.joined.part new.run.sheet new.begun.items new.found in
     subst P (sym (ap (λ (xs : List ℕ). list ++ xs) (take_more piece i 0 c.loop-i-test.true) ∙ sym (append_assoc list (take i piece) (get_or piece i 0 ∷ []))))
-    (c.in_ok-put.ensures.listed disk options F cubes (list ++ take i piece) (c.loop-i.invariant disk options F cubes list h))
+    (c.in_ok-take_byte.ensures.listed disk options F cubes (list ++ take i piece) (c.loop-i.invariant disk options F cubes list h))
 
 pub returns-clause-taken : goal.returns-clause-taken
 returns-clause-taken g c = λ disk options F cubes list h.

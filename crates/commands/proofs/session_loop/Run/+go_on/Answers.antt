@@ -1,4 +1,5 @@
-use Rattle.std.proofs.Common.{IfOk, OnErr, subst}
+use Rattle.std.proofs.Common.{◌≤◌, IfOk, OnErr, arith, subst}
+use Rattle.dimacs.specs.logic.Limits.{Limits}
 use Rattle.commands.specs.declared.session_loop.Asking.{Asking}
 use Rattle.commands.specs.declared.session_loop.Ended.TheVariants as ended
 use Rattle.commands.specs.inner.SessionLoop.{EndsSo, IsLeftOf}
@@ -36,7 +37,9 @@ returns-in-Ok-clause-goes g t c = λ all r.
     let has = g.O.Outputs.has c.take_lines.new.outputs in
     let x = c.take_lines.new.self in
     let waits = outgrown_is all g.B.Read.remaining has (g.O.Outputs.unheard c.take_lines.new.outputs) _ c.in-Outgrown.sent x c.take_lines.new.session c.in-Outgrown.is (c.in_ok-fault.ensures.goes all r) in
-    let now = grown_goes all g.B.Read.remaining has _ x c.take_lines.new.session c.in-Ok.grown c.in-Ok.ensures.stands waits in
+    let less : c.grown_to-more.result ≤ x.asking.limits.vars
+    = subst (λ (M : Limits). c.grown_to-more.result ≤ M.vars) waits.hears.heard_so.limits (omega (arith, c.grown_to-more.ensures.limit, c.most-limit.ensures.value)) in
+    let now = grown_goes all g.B.Read.remaining has _ x c.take_lines.new.session c.in-Ok.grown (λ E told text. c.in-Ok.ensures.stands x.asking.limits E told text less) waits in
     let Q : Asking → Type 0 = λ o. IfOk c.go_on.result (EndsSo all (g.O.Outputs.has c.go_on.new.outputs) (g.O.Outputs.unheard c.go_on.new.outputs) o c.go_on.new.self.status) in
     subst Q c.in_ok-fault.ensures.asking (c.go_on.ensures.goes all now)
 
@@ -45,7 +48,9 @@ returns-in-Ok-clause-left g t c = λ all r.
     let has = g.O.Outputs.has c.take_lines.new.outputs in
     let x = c.take_lines.new.self in
     let waits = outgrown_is all g.B.Read.remaining has (g.O.Outputs.unheard c.take_lines.new.outputs) _ c.in-Outgrown.sent x c.take_lines.new.session c.in-Outgrown.is (c.in_ok-fault.ensures.goes all r) in
-    let now = grown_goes all g.B.Read.remaining has _ x c.take_lines.new.session c.in-Ok.grown c.in-Ok.ensures.stands waits in
+    let less : c.grown_to-more.result ≤ x.asking.limits.vars
+    = subst (λ (M : Limits). c.grown_to-more.result ≤ M.vars) waits.hears.heard_so.limits (omega (arith, c.grown_to-more.ensures.limit, c.most-limit.ensures.value)) in
+    let now = grown_goes all g.B.Read.remaining has _ x c.take_lines.new.session c.in-Ok.grown (λ E told text. c.in-Ok.ensures.stands x.asking.limits E told text less) waits in
     let Q : Asking → Type 0 = λ o. OnErr c.go_on.result (IsLeftOf all (g.O.Outputs.has c.go_on.new.outputs) o) in
     subst Q c.in_ok-fault.ensures.asking (c.go_on.ensures.left all now)
 

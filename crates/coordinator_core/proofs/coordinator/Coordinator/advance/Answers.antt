@@ -6,7 +6,7 @@ use Rattle.cube_split.specs.Definitions.{base_with}
 use Rattle.coordinator_core.specs.inner.Fronts.{IsFrontOfTree, IsJoined}
 use Rattle.coordinator_core.specs.declared.job_state.LeafState.TheVariants.{Closed}
 use Rattle.coordinator_core.proofs.FrontLemmas.{joined_base}
-use Rattle.coordinator_core.proofs.InvariantLemmas.{pairs_inside}
+use Rattle.coordinator_core.proofs.InvariantLemmas.{base_low, pairs_inside}
 use Rattle.coordinator_core.proofs.coordinator.Coordinator.advance.Goals as goal
 
 pub front_or_new-front-requires-clause-pairs : goal.front_or_new-front-requires-clause-pairs
@@ -29,6 +29,7 @@ join_next-requires-clause-closes c =
       c.self.inside.preamble.pairs,
       subst (λ (ts : List (List ℕ)). Closes (base_with c.self.inside.formula c.self.inside.preamble.pairs) (get_or c.self.inside.tree c.place_of-place.result []) (get_or ts c.place_of-place.result [])) (sym c.fragments.ensures) (c.self.invariant.2.closing c.place_of-place.result closed_there),
       joined_base c.self.inside.formula c.self.inside.preamble.pairs c.self.inside.tree c.self.inside.leaves.states c.fragments.result.now c.front_or_new-front.result (c.front_or_new-front.ensures.front c.self.inside.tree c.self.inside.leaves.states c.fragments.result.now joined),
+      base_low _ c.self.invariant.2,
     )
 
 pub invariant_of-self : goal.invariant_of-self

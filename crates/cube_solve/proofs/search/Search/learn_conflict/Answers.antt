@@ -12,7 +12,7 @@ use Rattle.cube_solve.specs.inner.UnitClauses.{IsUnitOf, IsNoted}
 use Rattle.cube_solve.proofs.BuiltLemmas.{sound}
 use Rattle.cube_solve.proofs.ClauseLemmas.{is_added}
 use Rattle.cube_solve.proofs.LevelCutLemmas.{is_fresh}
-use Rattle.cube_solve.proofs.LogLemmas.{lemma_limits}
+use Rattle.cube_solve.proofs.LogLemmas.{lemma_limits, lemma_line}
 use Rattle.cube_solve.proofs.MapLemmas.{not_live}
 use Rattle.cube_solve.proofs.DecisionOrderLemmas.{order_same}
 use Rattle.cube_solve.proofs.StateLemmas.{state_learned}
@@ -40,11 +40,11 @@ analyse_into-requires g c = record {
 
 pub write-requires : goal.write-requires
 write-requires g c =
-    lemma_limits (live_of c.args.self.now.state.arena) c.args.self.now.state.trail.vars c.args.id c.analyse_into.new.lemma.lits.items c.analyse_into.new.lemma.hints.items
+    lemma_line (live_of c.args.self.now.state.arena) c.args.self.now.state.trail.vars c.args.id c.analyse_into.new.lemma.lits.items c.analyse_into.new.lemma.hints.items
     c.requires.id c.requires.numbers c.requires.limit c.in_ok-analyse_into.ensures.lemma.within c.in_ok-analyse_into.ensures.lemma.rup
 
-pub count_levels-requires : goal.count_levels-requires
-count_levels-requires g c = ((c.requires.steady).state).inside
+pub lower_lbds-requires : goal.lower_lbds-requires
+lower_lbds-requires g c = ((c.requires.steady).state).inside
 
 pub bump-requires-clause-met : goal.bump-requires-clause-met
 bump-requires-clause-met g c = rw (c.met.ensures, ((c.requires.steady).order).vars) (c.in_ok-analyse_into.ensures.met).within
@@ -96,7 +96,8 @@ returns-clause-learns g c =
         hints = hints;
         rup = e.rup;
         within = e.within;
-        limits = lemma_limits (live_of m) c.args.self.now.state.trail.vars c.args.id lits hints c.requires.id c.requires.numbers c.requires.limit e.within e.rup;
+        few = c.requires.limit;
+        limits = lemma_limits (live_of m) c.args.self.now.state.trail.vars c.args.id lits hints c.requires.id c.requires.numbers e.within e.rup;
         text = c.in_ok-write.ensures;
       };
       is_new = is_fresh (live_of m) es lits c.analyse_into.new.lemma.level (sound (live_of m) es s.built) s.quiet e.asserting;

@@ -6,7 +6,7 @@ use Rattle.clause_arena.specs.Clauses.{live_of}
 use Rattle.lrat_text.specs.WrittenLine.{line_of}
 use Rattle.lrat_text.specs.declared.step.Step.TheVariants.{Add}
 use Rattle.cube_solve.specs.inner.UnitClauses.{IsUnitOf, IsNoted}
-use Rattle.cube_solve.proofs.LogLemmas.{lemma_limits}
+use Rattle.cube_solve.proofs.LogLemmas.{lemma_limits, lemma_line}
 use Rattle.cube_solve.proofs.UnitClauseLemmas.{noted_added, one_within, unit_is_new}
 use Rattle.cube_solve.proofs.search.Search.learn_unit.Goals as goal
 
@@ -14,7 +14,7 @@ pub write-requires : goal.write-requires
 write-requires g c =
     let s = c.args.self.now in
     let f = c.requires.fixing in
-    lemma_limits (live_of s.state.arena) s.state.trail.vars c.args.id s.lemma.lits.items s.lemma.hints.items c.requires.id c.requires.numbers c.requires.limit
+    lemma_line (live_of s.state.arena) s.state.trail.vars c.args.id s.lemma.lits.items s.lemma.hints.items c.requires.id c.requires.numbers c.requires.limit
     (subst (All (IsWithin s.state.trail.vars)) (sym f.lits) (one_within s.state.trail.vars c.args.literal f.within))
     (subst (λ (C : Clause). Rup (live_of s.state.arena) C s.lemma.hints.items) (sym f.lits) f.rup)
 
@@ -40,7 +40,8 @@ returns-clause-learns g c =
         hints = hints;
         rup = f.rup;
         within = one_within vars l f.within;
-        limits = lemma_limits live vars c.args.id (l ∷ []) hints c.requires.id c.requires.numbers c.requires.limit (one_within vars l f.within) f.rup;
+        few = c.requires.limit;
+        limits = lemma_limits live vars c.args.id (l ∷ []) hints c.requires.id c.requires.numbers (one_within vars l f.within) f.rup;
         text = c.in_ok-write.ensures ∙ ap (λ (C : Clause). s.log ++ line_of c.args.id (Add c.args.id C hints [])) f.lits;
       };
       is_new = unit_is_new live s.state.trail.entries s.units.numbers.items l c.requires.noted f.unnoted ((c.requires.steady).state).quiet c.requires.above;

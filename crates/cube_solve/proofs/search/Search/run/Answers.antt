@@ -45,7 +45,7 @@ returns-in-Assumption g c =
     let id = c.len.result + 1 + c.turns.learnt in
     let number = next_number B c.len.result c.turns.learnt c.vars.ensures.valid c.len.ensures (let w = c.turns.invariant.within in let l = c.min-most.ensures in omega arith) in
     ends_refuted B q c.args.limit c.in_ok-text-in-Assumption.text
-    (closed B new.trail.vars c.turns.learnt id (live_of new.arena) e.0 old.log c.in_ok-text-in-Assumption.text (let n = c.len.ensures in omega arith) number s.learnt e.1 q (allowed c.args.limit)
+    (closed B new.trail.vars c.turns.learnt id (live_of new.arena) e.0 old.log c.in_ok-text-in-Assumption.text s.vars (let n = c.len.ensures in omega arith) number s.learnt e.1 q (allowed c.args.limit)
     (let w = c.turns.invariant.within in let l = c.min-most.ensures in omega arith)
     (closes_assumption q (live_of new.arena) new.trail.entries new.assumed c.in-Assumption.literal e.0 c.descend.ensures.assuming ((c.descend.ensures.steady).state).built f.0 f.1 e.2))
 
@@ -66,7 +66,7 @@ returns-then-level-self g c =
     let id = c.len.result + 1 + c.turns.learnt in
     let number = next_number B c.len.result c.turns.learnt c.vars.ensures.valid c.len.ensures (let w = c.turns.invariant.within in let l = c.min-most.ensures in omega arith) in
     ends_refuted B q c.args.limit c.in_ok-text-in-Clause.text
-    (closed B new.trail.vars c.turns.learnt id (live_of new.arena) e.0 old.log c.in_ok-text-in-Clause.text (let n = c.len.ensures in omega arith) number s.learnt e.1 q (allowed c.args.limit)
+    (closed B new.trail.vars c.turns.learnt id (live_of new.arena) e.0 old.log c.in_ok-text-in-Clause.text s.vars (let n = c.len.ensures in omega arith) number s.learnt e.1 q (allowed c.args.limit)
     (let w = c.turns.invariant.within in let l = c.min-most.ensures in omega arith)
     (closes_clause q new.trail.entries new.assumed c.in-Clause.number e.0 c.descend.ensures.assuming (let p = c.level.ensures.present in let t = c.if-level-self.true in omega arith) e.2))
 

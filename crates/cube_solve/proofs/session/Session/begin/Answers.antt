@@ -18,4 +18,4 @@ returns-clause-given g c = λ F h.
 pub returns-clause-tells : goal.returns-clause-tells
 returns-clause-tells g c =
     let s = c.args.self.now in
-    tells_same s (record s { search = record s.search { state = c.begin.new.self } }) (same_arena s.search.state.arena c.begin.new.self.arena c.begin.ensures.arena) refl refl refl
+    tells_same s (record s { search = record s.search { state = c.begin.new.self } }) (same_arena s.search.state.arena c.begin.new.self.arena c.begin.ensures.arena) c.begin.ensures.vars refl refl refl

@@ -18,4 +18,4 @@ returns-clause-given g c = λ F h.
 pub returns-clause-tells : goal.returns-clause-tells
 returns-clause-tells g c =
     let s = c.args.self.now in
-    tells_same s (record s { search = record s.search { state = c.descend.new.self } }) c.descend.ensures.clauses refl refl refl
+    tells_same s (record s { search = record s.search { state = c.descend.new.self } }) c.descend.ensures.clauses c.descend.ensures.vars refl refl refl

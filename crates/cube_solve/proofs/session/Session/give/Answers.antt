@@ -35,7 +35,7 @@ returns-clause-ready g c =
       below = below_more id old new c.deref.result.now c.in_ok-id.ensures.number below e.added;
       lemmas = lemmas_stay old new id c.deref.result.now s.search.lemmas.items c.add_given.new.self.lemmas.items e.lemmas e.added (c.requires.ready).lemmas;
       noted = e.noted;
-      few = subst (λ v. v ≤ 2000000) (sym e.vars) (c.requires.ready).few;
+      few = subst (λ v. v ≤ 199999999) (sym e.vars) (c.requires.ready).few;
       bounded = c.in_ok-id.ensures.bounded;
       stamped = subst (λ v. AreStamped v c.mark.new.self) (c.vars-vars.ensures ∙ sym e.vars) c.in_ok-mark.ensures.stamped;
     }

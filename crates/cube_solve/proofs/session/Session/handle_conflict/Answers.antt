@@ -51,7 +51,7 @@ returns-clause-ready g c =
       below = λ j D i. below_more id old (live_of mid.state.arena) (e.learns).lits c.in_ok-id.ensures.number below (e.learns).added j D (((p.drops).less).was j D i).1;
       lemmas = p.lemmas 0 h;
       noted = noted_units (live_of new.state.arena) mid.units new.units p.units (noted_kept 0 (live_of mid.state.arena) (live_of new.state.arena) mid.log new.log mid.units.numbers.items (p.kept 0 h) e.noted);
-      few = subst (λ v. v ≤ 2000000) (sym (p.vars ∙ e.vars)) (c.requires.ready).few;
+      few = subst (λ v. v ≤ 199999999) (sym (p.vars ∙ e.vars)) (c.requires.ready).few;
       bounded = c.in_ok-id.ensures.bounded;
       stamped = subst (λ v. AreStamped v s.marks) (sym (p.vars ∙ e.vars)) (c.requires.ready).stamped;
     }
@@ -85,7 +85,7 @@ returns-then-not-branch-clause-ready g c =
       below = below_more id old (live_of mid.state.arena) (e.learns).lits c.in_ok-id.ensures.number below (e.learns).added;
       lemmas = lemmas_more 0 id old (live_of mid.state.arena) (e.learns).lits s.search.lemmas.items mid.lemmas.items e.lemmas (omega arith) below (e.learns).added (c.requires.ready).lemmas;
       noted = e.noted;
-      few = subst (λ v. v ≤ 2000000) (sym e.vars) (c.requires.ready).few;
+      few = subst (λ v. v ≤ 199999999) (sym e.vars) (c.requires.ready).few;
       bounded = c.in_ok-id.ensures.bounded;
       stamped = subst (λ v. AreStamped v s.marks) (sym e.vars) (c.requires.ready).stamped;
     }
@@ -110,10 +110,10 @@ returns-clause-tells g c =
     let id = c.in_ok-id.id in
     let below : AreBelow id old = subst (λ (n : ℕ). AreBelow n old) (sym c.in_ok-id.ensures.next) (c.requires.ready).below in
     let held = lemmas_more 0 id old (live_of c.learn.new.self.state.arena) (e.learns).lits s.search.lemmas.items c.learn.new.self.lemmas.items e.lemmas (omega arith) below (e.learns).added (c.requires.ready).lemmas in
-    tells_on s mid new (tells_learnt s mid s.search.state.trail.vars c.in_ok-id.ensures.next (c.requires.ready).below e.lemmas e.learns) (tells_dropped mid new c.in_ok-id.ensures.number refl held c.in_ok-restart_and_reduce.ensures.drops)
+    tells_on s mid new (tells_learnt s mid e.vars c.in_ok-id.ensures.next (c.requires.ready).below e.lemmas e.learns) (tells_dropped mid new c.in_ok-restart_and_reduce.ensures.vars c.in_ok-id.ensures.number refl held c.in_ok-restart_and_reduce.ensures.drops)
 
 pub returns-then-not-branch-clause-tells : goal.returns-then-not-branch-clause-tells
 returns-then-not-branch-clause-tells g c =
     let s = c.args.self.now in
     let e = c.in_ok-learn.ensures in
-    tells_learnt s (record s { search = c.learn.new.self; top = c.in_ok-id.id }) s.search.state.trail.vars c.in_ok-id.ensures.next (c.requires.ready).below e.lemmas e.learns
+    tells_learnt s (record s { search = c.learn.new.self; top = c.in_ok-id.id }) e.vars c.in_ok-id.ensures.next (c.requires.ready).below e.lemmas e.learns

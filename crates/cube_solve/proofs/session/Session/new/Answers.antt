@@ -25,7 +25,7 @@ returns-clause-ready g c =
       below = λ j D i. let b = l.below j D i in let up = b.1 in let n = c.len.ensures in (b.0, omega arith);
       lemmas = subst (λ (ls : List ℕ). AreLemmas 0 (live_of s.state.arena) ls) (sym e.lemmas) (lemmas_none 0 (live_of s.state.arena));
       noted = (e.searching).noted;
-      few = subst (λ v. v ≤ 2000000) (sym l.vars) (c.vars-vars.ensures.valid).vars;
+      few = subst (λ v. v ≤ 199999999) (sym l.vars) (c.vars-vars.ensures.valid).vars;
       bounded = (let b = (c.vars-vars.ensures.valid).clauses in let n = c.len.ensures in omega arith);
       stamped = subst (λ v. AreStamped v c.in_ok-new.field-0) (c.vars-vars.ensures.value ∙ sym l.vars) c.in_ok-new.ensures;
     }

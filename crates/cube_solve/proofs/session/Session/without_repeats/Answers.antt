@@ -17,4 +17,4 @@ returns-clause-within g c = bound_same (IsWithin c.args.self.now.search.state.tr
 pub returns-clause-tells : goal.returns-clause-tells
 returns-clause-tells g c =
     let s = c.args.self.now in
-    tells_same s (record s { marks = c.mark.new.self }) (same_arena s.search.state.arena s.search.state.arena refl) refl refl refl
+    tells_same s (record s { marks = c.mark.new.self }) (same_arena s.search.state.arena s.search.state.arena refl) refl refl refl refl

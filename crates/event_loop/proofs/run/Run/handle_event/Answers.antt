@@ -16,33 +16,33 @@ fresh_none slots none = subst AreFresh (sym none) tt
 
 pub returns-in-Linked : goal.returns-in-Linked
 returns-in-Linked g c = record {
-  formula = c.begin.ensures.formula;
+  formula = c.add_connection.ensures.formula;
   spends = spends_none _ _ _;
   each = λ p.
       let begun = ap (λ event. begun_at event p) c.in-Linked.is in
-      let opens = c.begin.ensures.opens p in
+      let opens = c.add_connection.ensures.opens p in
       omega (arith, begun, opens);
-  first = λ none. (c.begin.ensures.verdict, c.begin.ensures.fresh (fresh_none _ none));
-  apart = c.begin.ensures.apart;
-  handled = subst (λ (e : Event). OnOk c.begin.result (EventHandled e c.args.room.now c.args.self.now.slots.items c.begin.new.self.slots.items c.args.self.now.dispatcher.coordinator c.begin.new.self.dispatcher.coordinator)) (sym c.in-Linked.is) (on_ok_any c.begin.result c.begin.ensures.elsewhere);
+  first = λ none. (c.add_connection.ensures.verdict, c.add_connection.ensures.fresh (fresh_none _ none));
+  apart = c.add_connection.ensures.apart;
+  handled = subst (λ (e : Event). OnOk c.add_connection.result (EventHandled e c.args.room.now c.args.self.now.slots.items c.add_connection.new.self.slots.items c.args.self.now.dispatcher.coordinator c.add_connection.new.self.dispatcher.coordinator)) (sym c.in-Linked.is) (on_ok_any c.add_connection.result c.add_connection.ensures.elsewhere);
 }
 
 pub returns-in-Bytes : goal.returns-in-Bytes
 returns-in-Bytes g c = record {
-  formula = c.take.ensures.formula;
-  spends = c.take.ensures.spends;
+  formula = c.take_bytes.ensures.formula;
+  spends = c.take_bytes.ensures.spends;
   each = λ p.
-      let each = c.take.ensures.each p in
+      let each = c.take_bytes.ensures.each p in
       omega (arith, each);
   first = λ none.
-      let first = c.take.ensures.first none in
+      let first = c.take_bytes.ensures.first none in
       (first.0, fresh_none _ first.1);
-  apart = c.take.ensures.apart;
+  apart = c.take_bytes.ensures.apart;
   handled =
       let old = c.args.self.now in
-      let new = c.take.new.self in
-      subst (λ (e : Event). OnOk c.take.result (EventHandled e c.args.room.now old.slots.items new.slots.items old.dispatcher.coordinator new.dispatcher.coordinator)) (sym c.in-Bytes.is)
-      (on_ok_weaker c.take.result (λ is. (is, c.take.ensures.elsewhere)) c.take.ensures.handled);
+      let new = c.take_bytes.new.self in
+      subst (λ (e : Event). OnOk c.take_bytes.result (EventHandled e c.args.room.now old.slots.items new.slots.items old.dispatcher.coordinator new.dispatcher.coordinator)) (sym c.in-Bytes.is)
+      (on_ok_weaker c.take_bytes.result (λ is. (is, c.take_bytes.ensures.elsewhere)) c.take_bytes.ensures.handled);
 }
 
 pub returns-in-Quiet : goal.returns-in-Quiet

@@ -21,7 +21,7 @@ loop-place-preserved c =
     let inside : place < length b.tree = omega arith in
     let low : b.first ≤ place = omega arith in
     let closes = c.closes-is_closed.ensures in
-    let status = c.status_behind-status.ensures in
+    let status = c.status_after-status.ensures in
     rw (c.in_ok-put_leaf.ensures, status) (telling_more l.log b.tree b.first place _ c.cube.result.now c.loop-place.text.items c.loop-place.status c.closes-is_closed.result low inside refl c.cube.ensures.cube
     (tells_leaf l.log _ c.cube.result.now c.closes-is_closed.result c.requires closes.text closes.closes)
     c.loop-place.invariant)

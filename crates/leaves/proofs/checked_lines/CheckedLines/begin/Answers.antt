@@ -6,7 +6,7 @@ pub returns : goal.returns
 returns c = λ F cubes logs written h. (
   record {
     within = c.begin-2.ensures F cubes logs (written ++ c.args.self.now.out.items) h.between;
-    behind = begun_behind F c.begin.new.self (c.begin.ensures.begun F h.stands) (c.begin.ensures.stands F h.stands);
+    after = begun_behind F c.begin.new.self (c.begin.ensures.begun F h.stands) (c.begin.ensures.stands F h.stands);
   },
   c.begin.ensures.begun F h.stands,
 )

@@ -20,5 +20,6 @@ pub returns : goal.returns
 returns c = let cut = c.args.self.now.checker.cut in on_ok c.line.result _ _ (λ put F cubes logs log written h.
     cut_is_written F cubes logs log written c.args.self.now h c.line.new.self c.line.new.out (take c.min.result c.in-Delete.ids.now)
     (ap (λ (x : Step). take cut (ids_of x)) (sym c.step.ensures) ∙ ap (λ (r : StepRef). take cut (ids_of (step_of r))) c.in-Delete.is
-    ∙ take_least cut c.min.result c.in-Delete.ids.now (c.min.ensures ∙ ap (λ (n : ℕ). min n (length c.in-Delete.ids.now)) c.cut-cut.ensures)) put)
+    ∙ take_least cut c.min.result c.in-Delete.ids.now (c.min.ensures ∙ ap (λ (n : ℕ). min n (length c.in-Delete.ids.now)) c.cut-cut.ensures))
+    (c.are_clause_numbers.ensures c.if-not-are_clause_numbers.false) put)
     c.line.ensures.line

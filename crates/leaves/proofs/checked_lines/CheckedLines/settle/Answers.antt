@@ -15,7 +15,7 @@ loop-number-init c = record {
   out = refl;
   over = λ F cubes logs log written h.
       none_over F cubes logs (record { steps = log; accepted = c.args.accepted }) (written ++ c.args.self.now.out.items) (c.base-number.result + 1) c.args.self.now.joiner
-      (omega (arith, c.base-number.ensures.value, h.behind.base))
+      (omega (arith, c.base-number.ensures.value, h.after.base))
       (c.joiner_states.ensures.begins F cubes logs log c.args.accepted c.args.self.now.joiner (written ++ c.args.self.now.out.items) h.within);
   told = λ F cubes logs log written h accepted. tells_none F log (joined_so_far F cubes logs).leaves c.args.self.now.joiner h.within.stands.leaves;
 }
@@ -26,14 +26,14 @@ loop-number-preserved c = record {
   out = c.in_ok-closed.ensures.out ∙ c.loop-number.invariant.out;
   over = λ F cubes logs log written h.
       c.in_ok-closed.ensures.over F cubes logs log (written ++ c.args.self.now.out.items)
-      (subst (λ (s : LogState). s.live ≡ after_steps (map_of F) log) (sym c.loop-number.invariant.checker) h.behind.live)
+      (subst (λ (s : LogState). s.live ≡ after_steps (map_of F) log) (sym c.loop-number.invariant.checker) h.after.live)
       (c.loop-number.invariant.over F cubes logs log written h);
   told = λ F cubes logs log written h accepted.
       let written_now = written ++ c.args.self.now.out.items in
       tells_more F log (joined_so_far F cubes logs).leaves c.loop-number.self.joiner c.hand_over.new.self.joiner c.loop-number.closes c.in_ok-closed.closed c.either-closes.result c.either-closes.ensures
       (c.loop-number.invariant.told F cubes logs log written h accepted)
       (c.in_ok-closed.ensures.told accepted F cubes logs log written_now
-      (subst (λ (s : LogState). s.live ≡ after_steps (map_of F) log) (sym c.loop-number.invariant.checker) h.behind.live)
+      (subst (λ (s : LogState). s.live ≡ after_steps (map_of F) log) (sym c.loop-number.invariant.checker) h.after.live)
       (subst (λ (b : Bool). AreHandedOver F cubes logs (record { steps = log; accepted = b }) written_now c.loop-number.number c.loop-number.self.joiner) accepted
       (c.loop-number.invariant.over F cubes logs log written h)));
 }
@@ -47,8 +47,8 @@ returns c = λ F cubes logs log written h.
       record {
         low = over.low;
         ending = subst (λ o. AtLogEnd F cubes logs (record { steps = log; accepted = c.args.accepted }) over.low now.joiner (written ++ o.items)) (sym c.loop-number.invariant.out) over.ending;
-        none_left = none_left F old.checker log over.low c.loop-number.number h.behind above over.none;
-        stands = subst (λ (s : LogState). HoldsFormula F s) (sym c.loop-number.invariant.checker) h.behind.stands;
+        none_left = none_left F old.checker log over.low c.loop-number.number h.after above over.none;
+        stands = subst (λ (s : LogState). HoldsFormula F s) (sym c.loop-number.invariant.checker) h.after.stands;
       },
       c.loop-number.invariant.told F cubes logs log written h,
     )

@@ -21,7 +21,7 @@ returns-in-Ok-clause-stands c = λ F cubes files bytes written h.
 
 pub returns-in-Line-clause-stands : goal.returns-in-Line-clause-stands
 returns-in-Line-clause-stands c =
-    on_ok c.stop.result _ _ (stops_standing c.in-Err.fault c.in-Line.fault c.args.self.now _ _ c.args.piece.now c.requires refl c.in-Line.is c.in-Err.ensures.taken) c.stop.ensures
+    on_ok c.keep_fault.result _ _ (stops_standing c.in-Err.fault c.in-Line.fault c.args.self.now _ _ c.args.piece.now c.requires refl c.in-Line.is c.in-Err.ensures.taken) c.keep_fault.ensures
 
 pub returns-in-Line-clause-kind : goal.returns-in-Line-clause-kind
-returns-in-Line-clause-kind c = on_ok c.stop.result _ _ (stops_kind c.in-Line.fault c.args.self.now.reading _ _ c.requires) c.stop.ensures
+returns-in-Line-clause-kind c = on_ok c.keep_fault.result _ _ (stops_kind c.in-Line.fault c.args.self.now.reading _ _ c.requires) c.keep_fault.ensures

@@ -20,7 +20,7 @@ pub put_lemma-requires-clause-within : goal.put_lemma-requires-clause-within
 put_lemma-requires-clause-within g c =
     let vars = vars_of c.args.self.now.session in
     let core = c.args.failure.now.core.items in
-    subst (All (IsWithin 2000000)) (sym (c.deref-3.ensures.value ∙ c.in_ok-clause.ensures ∙ ap (map negation) c.deref.ensures.value))
+    subst (All (IsWithin 199999999)) (sym (c.deref-3.ensures.value ∙ c.in_ok-clause.ensures ∙ ap (map negation) c.deref.ensures.value))
     (within_limit vars (map negation core) c.requires.ready.few (within_negated vars core c.requires.within))
 
 pub returns-clause-stands : goal.returns-clause-stands
@@ -35,10 +35,10 @@ returns-clause-stands g c = λ F closing steps h rup.
     let is : c.in_ok-clause.clause.items ≡ C = c.in_ok-clause.ensures ∙ ap (map negation) c.deref.ensures.value in
     let given_is : c.deref-2.result.now ≡ C = c.deref-2.ensures.value ∙ is in
     let put_is : c.deref-3.result.now ≡ C = c.deref-3.ensures.value ∙ is in
-    stands_closed F closing steps s (record { session = w; log = c.put_lemma.new.log }) w C hints e.vars e.last e.number e.log
+    stands_closed F closing steps s (record { session = w; log = c.put_lemma.new.log }) w C hints c.requires.ready.few e.vars e.last e.number e.log
     (λ G k. subst (λ (D : Clause). AreGiven (G ++ D ∷ []) w) given_is (e.given G k))
     (λ given M k. subst (λ (D : Clause). IsKnown (given ++ last_of w ∷ []) (insert M (last_of w) D) w) given_is (e.known given M k))
-    (e.number, within_limit vars C c.requires.ready.few (within_negated vars core c.requires.within), c.requires.hints, All-nil IsGroup)
+    (e.number, within_negated vars core c.requires.within, c.requires.hints, All-nil IsGroup)
     refl
     (c.in_ok-put_lemma.ensures ∙ ap (λ (id : ℕ). s.log ++ line_of id (Add id c.deref-3.result.now c.deref-4.result.now [])) c.last-id.ensures
     ∙ ap (λ (D : Clause). s.log ++ line_of (last_of w) (Add (last_of w) D c.deref-4.result.now [])) put_is ∙ ap (λ (ns : List ℕ). s.log ++ line_of (last_of w) (Add (last_of w) C ns [])) c.deref-4.ensures.value) h rup

@@ -4,4 +4,4 @@ use Rattle.lidrup.proofs.names.Names.get.Goals as goal
 
 pub returns : goal.returns
 returns c =
-    c.find.ensures ∙ map_here c.args.self.now.maps.items c.index.result.now c.place.result c.args.number c.place.ensures.is (omega (arith, c.place.ensures.below, c.args.self.now.whole)) c.index.ensures
+    c.find_in_map.ensures ∙ map_here c.args.self.now.maps.items c.index.result.now c.map_index.result c.args.number c.map_index.ensures.is (omega (arith, c.map_index.ensures.below, c.args.self.now.whole)) c.index.ensures

@@ -11,12 +11,12 @@ index_of-requires c =
     placed_low 0 c.grow.new.next c.in_ok-node.node c.in_ok-node.ensures.placed (omega arith)
 
 pub returns : goal.returns
-returns c = λ F count.
+returns c = λ F vars count.
     let n = c.in_ok-node.ensures.next (whole_part c.args.tree.now c.leaves.ensures.valid.leaves) in
     let v = c.leaves.ensures.value in
     let l = c.leaves.ensures.limit in
     let low : c.grow.new.next ≤ 65536 = omega arith in
-    nothing_written F c.args.tree.now _ (c.in_ok-node.ensures.made (whole_part c.args.tree.now c.leaves.ensures.valid.leaves))
+    nothing_written F c.args.tree.now _ vars (c.in_ok-node.ensures.made (whole_part c.args.tree.now c.leaves.ensures.valid.leaves))
     (record {
       placed = placed_wider 0 c.grow.new.next 65536 c.in_ok-node.node low c.in_ok-node.ensures.placed;
       covered = c.in_ok-index.ensures;

@@ -1,6 +1,7 @@
 use Rattle.std.proofs.Common.{ap, sym, ◌∙◌, refl}
 use Rattle.dimacs.specs.layout.Flat.{parts}
 use Rattle.dimacs.specs.logic.Cnf.{Cnf}
+use Rattle.lrat_text.specs.Log.{log_top}
 use Rattle.lrat_check.specs.inner.Store.{numbered}
 use Rattle.lrat_check.proofs.Behind.{begun_stands}
 use Rattle.lrat_check.proofs.log_checker.LogChecker.of.Goals as goal
@@ -13,6 +14,7 @@ returns-clause-begun c = record {
   top = c.in_ok-of_parts.ensures.top ∙ c.len-count.ensures;
   line = refl;
   cut = c.in_ok-of_parts.ensures.cut;
+  most = c.log_top-most.ensures.value ∙ ap log_top c.as_base.ensures;
 }
 
 pub returns-clause-stands : goal.returns-clause-stands

@@ -9,4 +9,4 @@ pub returns-in_err-next-clause-cut : goal.returns-in_err-next-clause-cut
 returns-in_err-next-clause-cut c =
     let is = c.self.view_is in
     let p = err_from_is_err_and c.from_residual.result c.from_residual.ensures.1 in
-    rw p.1 (uncut _ _ (ap (λ (s : LogState). s.base) is) (ap (λ (s : LogState). s.top) is) (ap (λ (s : LogState). s.line) is) refl (ap (λ (s : LogState). s.live) is))
+    rw p.1 (uncut _ _ (ap (λ (s : LogState). s.base) is) (ap (λ (s : LogState). s.top) is) (ap (λ (s : LogState). s.line) is) (ap (λ (s : LogState). s.most) is) refl (ap (λ (s : LogState). s.live) is))

@@ -11,7 +11,7 @@ loop-self-smaller c =
       arith,
       c.len.ensures,
       c.loop-self-test.true,
-      ap length c.in_ok-grow.ensures.ok,
+      ap length c.in_ok-push_block.ensures.ok,
       length-append c.loop-self.self.near free_block,
       length-free_block,
     )
@@ -20,7 +20,7 @@ pub loop-self-preserved : goal.loop-self-preserved
 loop-self-preserved c =
     let t = tables_of c.loop-self.self in
     let i = c.loop-self.invariant in
-    let more = c.in_ok-grow.ensures.ok in
+    let more = c.in_ok-push_block.ensures.ok in
     record {
       literals = i.literals;
       far = i.far;

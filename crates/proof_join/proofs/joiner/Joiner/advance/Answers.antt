@@ -14,13 +14,13 @@ use Rattle.proof_join.proofs.joiner.Joiner.advance.Goals as goal
 pub put_leaf-requires-clause-fragment : goal.put_leaf-requires-clause-fragment
 put_leaf-requires-clause-fragment c =
     let r = c.requires.closes in
-    subst (λ (b : ℕ). IsFragment b c.args.fragment.now) (r.1 ∙ ap (λ (f : Front). f.base) (sym c.self.view_is)) (closes_fragment r.0 c.args.cube.now c.args.fragment.now r.2)
+    subst (λ (b : ℕ). IsFragment b c.args.fragment.now) (r.2 ∙ ap (λ (f : Front). f.base) (sym c.self.view_is)) (closes_fragment r.0 c.args.cube.now c.args.fragment.now r.1 r.3)
 
 pub put_leaf-requires-clause-begun : goal.put_leaf-requires-clause-begun
 put_leaf-requires-clause-begun c =
     let r = c.requires.closes in
-    let same : length r.0.clauses ≡ c.self.inside.base = r.1 ∙ ap (λ (f : Front). f.base) (sym c.self.view_is) in
-    let some = closes_some r.0 c.args.cube.now c.args.fragment.now r.2 in
+    let same : length r.0.clauses ≡ c.self.inside.base = r.2 ∙ ap (λ (f : Front). f.base) (sym c.self.view_is) in
+    let some = closes_some r.0 c.args.cube.now c.args.fragment.now r.3 in
     let few = c.self.invariant.few in
     let text = ap length c.behind.ensures in
     (omega arith, c.self.invariant.up, omega arith)

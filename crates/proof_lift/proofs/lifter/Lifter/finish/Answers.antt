@@ -1,5 +1,5 @@
 use Rattle.proof_lift.specs.View.{held_of}
-use Rattle.std.proofs.Common.{◌≡◌, ◌⊎◌, ◌∙◌, ℕ, List, [], Result, Ok, Err, OnOk, inr, sym, ap, subst}
+use Rattle.std.proofs.Common.{◌≡◌, ◌⊎◌, ◌≤◌, ◌∙◌, ℕ, List, [], Result, Ok, Err, OnOk, inr, sym, ap, subst}
 use Rattle.dimacs.specs.logic.Cnf.{Cnf, IsFormula}
 use Rattle.lrat_check.specs.ProofFaults.{no_memory}
 use Rattle.lrat_check.specs.declared.line_checker.CheckFault.{CheckFault}
@@ -19,8 +19,8 @@ closes p (Ok _) before after (appended, out, ended) = λ F q bytes written form 
 closes p (Err fault) before after gives = tt
 
 complete : (p : LiftProgress) (r : Result (Unit {0}) CheckFault) (before after : List ℕ) → GivesEnd p r before after
-    → (F : Cnf) (q : Cube) (bytes written : List ℕ) → IsCube F q → HasTaken F q p bytes written → IsRefutation (leaf_of q F) bytes → (r ≡ Ok tt) ⊎ (r ≡ Err no_memory)
-complete p r before after gives F q bytes written cube taken refutes = let l = refutations_lift F q bytes cube refutes in answered F q p bytes written l.0 before after r taken gives l.1
+    → (F : Cnf) (q : Cube) (bytes written : List ℕ) → F.vars ≤ 199999999 → IsCube F q → HasTaken F q p bytes written → IsRefutation (leaf_of q F) bytes → (r ≡ Ok tt) ⊎ (r ≡ Err no_memory)
+complete p r before after gives F q bytes written few cube taken refutes = let l = refutations_lift F q bytes few cube refutes in answered F q p bytes written l.0 before after r taken gives l.1
 
 pub returns : goal.returns
 returns c =

@@ -10,9 +10,9 @@ assume_negations-requires-clause-unused c =
 pub returns-then-meets-clause-ready : goal.returns-then-meets-clause-ready
 returns-then-meets-clause-ready c =
     let old = c.args.self.now in
-    let new = c.pass.new.self in
+    let new = c.drop_lemma.new.self in
     let able = c.requires.ready.able in
-    let same = c.in_ok-pass.ensures.same in
+    let same = c.in_ok-drop_lemma.ensures.same in
     let room = c.make_room.new.self.marks in
     let back = lent_back room.len c.assume_negations.new.marks room.items (c.assume_negations.ensures.places ∙ c.deref_mut.ensures.len) in
     let marks : vec_len old.scratch.marks ≤ vec_len new.scratch.marks = omega (arith, c.in_ok-make_room.ensures.roomier.marks, ap vec_len same.marks) in
@@ -20,12 +20,12 @@ returns-then-meets-clause-ready c =
     let below = able.below in
     let rises = c.if-id-self.false in
     let high = c.requires.number.1 in
-    let top = c.in_ok-pass.ensures.counts.0 in
-    let own = c.in_ok-pass.ensures.counts.1 in
+    let top = c.in_ok-drop_lemma.ensures.counts.0 in
+    let own = c.in_ok-drop_lemma.ensures.counts.1 in
     record {
       positive = omega arith;
       able = able_moves old new able (record {
-        stands = stands_gone old new c.args.id c.in_ok-pass.ensures.stands;
+        stands = stands_gone old new c.args.id c.in_ok-drop_lemma.ensures.stands;
         cube = same.leaf.cube;
         live = same.live;
         marks = marks;

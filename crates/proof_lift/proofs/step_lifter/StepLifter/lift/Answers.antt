@@ -24,12 +24,12 @@ write-requires-clause-literals c =
     let C = c.args.lemma.lits.now in
     let is : c.join_cube.new.clause.items ≡ union q C = c.in_ok-join_cube.ensures.clause ∙ ap (λ (x : Clause). union x c.extend_from_slice.new.self.items) c.deref.ensures.value
     ∙ ap (union q) (c.in_ok-extend_from_slice.ensures.items ∙ ap (λ (x : Clause). x ++ C) c.clear.ensures.items) in
-    trims_all (IsWithin 2000000) c.join_cube.new.clause.items _ c.in_ok-literals.literals.items c.derive.new.self.numbers.items
-    (subst (λ (E : Clause). All (IsWithin 2000000) E) (sym is) (within_union q C c.requires.ready.able.cube c.requires.literals)) c.in_ok-literals.ensures.derived
+    trims_all (IsWithin 199999999) c.join_cube.new.clause.items _ c.in_ok-literals.literals.items c.derive.new.self.numbers.items
+    (subst (λ (E : Clause). All (IsWithin 199999999) E) (sym is) (within_union 199999999 q C c.requires.ready.able.cube c.requires.literals)) c.in_ok-literals.ensures.derived
 
 pub write-requires-clause-hints : goal.write-requires-clause-hints
 write-requires-clause-hints c =
-    trims_numbers (images_of c.args.self.now.images) c.args.lemma.hints.now _ c.join_cube.new.clause.items c.in_ok-literals.literals.items c.derive.new.self.numbers.items c.requires.ready.able.small c.in_ok-literals.ensures.derived
+    trims_numbers 199999999 (images_of c.args.self.now.images) c.args.lemma.hints.now _ c.join_cube.new.clause.items c.in_ok-literals.literals.items c.derive.new.self.numbers.items c.requires.ready.able.small c.in_ok-literals.ensures.derived
 
 pub returns-clause-writes : goal.returns-clause-writes
 returns-clause-writes c =
@@ -66,8 +66,8 @@ returns-clause-ready c =
     (subst (λ (x : Clause). FitsTable (vec_len old.scratch.marks) x) (sym is) (fits_union (vec_len old.scratch.marks) q C able.cube_marks c.requires.ready.lemma_marks)) c.in_ok-literals.ensures.derived in
     let fits_used : FitsTable (vec_len old.scratch.used) D = trims_all (λ l. 2 * var_of l + 1 < vec_len old.scratch.used) E _ D c.derive.new.self.numbers.items
     (subst (λ (x : Clause). FitsTable (vec_len old.scratch.used) x) (sym is) (fits_union (vec_len old.scratch.used) q C able.cube_used c.requires.ready.lemma_used)) c.in_ok-literals.ensures.derived in
-    let within : All (IsWithin 2000000) D = trims_all (IsWithin 2000000) E _ D c.derive.new.self.numbers.items
-    (subst (λ (x : Clause). All (IsWithin 2000000) x) (sym is) (within_union q C able.cube c.requires.literals)) c.in_ok-literals.ensures.derived in
+    let within : All (IsWithin 199999999) D = trims_all (IsWithin 199999999) E _ D c.derive.new.self.numbers.items
+    (subst (λ (x : Clause). All (IsWithin 199999999) x) (sym is) (within_union 199999999 q C able.cube c.requires.literals)) c.in_ok-literals.ensures.derived in
     record {
       positive = omega arith;
       able = able_moves old new able (record {

@@ -1,4 +1,4 @@
-use Rattle.std.proofs.Common.{◌≡◌, ℕ, ◌-◌, [], Some, sym, ap, subst, ◌∙◌, lit<, length, vec_len, arith}
+use Rattle.std.proofs.Common.{◌≡◌, ℕ, ◌-◌, ◌≤◌, [], Some, sym, ap, subst, ◌∙◌, lit<, length, vec_len, arith}
 use Rattle.std.specs.Prelude.{All}
 use Rattle.dimacs.specs.logic.Cnf.{IsFormula}
 use Rattle.dimacs.specs.logic.Literal.{Clause, IsWithin}
@@ -19,6 +19,7 @@ returns-clause-ready c =
     let at = λ (n i : ℕ) (D : Clause) (e : images_of c.in_ok-images.images n ≡ Some (Kept i D)). leaf_kept q F n i D (sym (ap (λ (T : ClauseImages). T n) is) ∙ e) in
     let own : c.len-own.result ≡ length F.clauses = c.len-own.ensures in
     let few = form.clauses in
+    let wide : F.vars ≤ 199999999 = omega (arith, form.vars) in
     let short = c.requires.few in
     let count = c.len.ensures in
     record {
@@ -33,7 +34,7 @@ returns-clause-ready c =
             let same = a.0 in
             let low = a.1 in
             let high = a.2 in
-            ((omega arith, omega arith), clause_within F.vars D form.vars (subst (λ (E : Clause). All (IsWithin F.vars) E) (sym a.3) (form.within (n - 1) [] a.2)));
+            ((omega arith, omega arith), clause_within 199999999 F.vars D wide (subst (λ (E : Clause). All (IsWithin F.vars) E) (sym a.3) (form.within (n - 1) [] a.2)));
         last = λ n i D e.
             let a = at n i D e in
             let same = a.0 in

@@ -19,7 +19,7 @@ returns c = record {
   few = omega (arith, c.leaves.ensures.value, c.leaves.ensures.limit);
   logs = [];
   written = [];
-  between = c.in_ok-of.ensures absurdity refl;
+  between = c.in_ok-of.ensures absurdity (omega arith) refl;
   top = omega arith;
   closed = none_agree c.args.tree.now;
 }

@@ -12,8 +12,8 @@ end_row-requires c =
     record { waits = w.2; fine = w.0 }
 
 pub returns-clause-taken : goal.returns-clause-taken
-returns-clause-taken c = λ e p h.
+returns-clause-taken c = λ L e p h.
     let x = c.args.self.now in
     let w = events_wanted x.fault x.proof.phase x.proof.no_event c.requires in
-    subst (λ (y : SessionCheck). HasTaken e p y) (sym c.close.ensures)
+    subst (λ (y : SessionCheck). HasTaken L e p y) (sym c.close.ensures)
     (taken_last e p x c.end_row.new.self _ w.0 w.1 c.end_row.ensures.row c.end_events.ensures.ends c.end_events.ensures.flag refl refl h)

@@ -4,11 +4,11 @@ use Rattle.node_main.proofs.CheckLemmas.{input_report}
 use Rattle.node_main.proofs.commands.check.proof_check.report_of.Goals as goal
 
 pub returns-in-Ok : goal.returns-in-Ok
-returns-in-Ok c = λ input proof taken.
-    let has = subst (λ s. HasTaken input s proof) c.in-Ok.is taken in
-    c.report.ensures input proof has.0 has.1 has.2
+returns-in-Ok c = λ L input proof taken.
+    let has = subst (λ s. HasTaken L input s proof) c.in-Ok.is taken in
+    c.report.ensures L input proof has.0 has.1 has.2
 
 pub returns-in-Err : goal.returns-in-Err
-returns-in-Err c = λ input proof taken.
-    let fails = subst (λ s. HasTaken input s proof) c.in-Err.is taken in
-    input_report input proof c.in-Err.fault c.unread.result fails c.unread.ensures.text c.unread.ensures.status c.unread.ensures.proof c.unread.ensures.memory
+returns-in-Err c = λ L input proof taken.
+    let fails = subst (λ s. HasTaken L input s proof) c.in-Err.is taken in
+    input_report L input proof c.in-Err.fault c.unread.result fails c.unread.ensures.text c.unread.ensures.status c.unread.ensures.proof c.unread.ensures.memory

@@ -8,22 +8,22 @@ use Rattle.node_main.proofs.CheckLemmas.{text_report, proof_report, nothing_give
 use Rattle.node_main.proofs.commands.check.stage.Stage.report.Goals as goal
 
 pub returns-in-Awaiting : goal.returns-in-Awaiting
-returns-in-Awaiting c = λ input proof F read taken.
+returns-in-Awaiting c = λ L input proof F read taken.
     let has = subst (λ s. Reaches F s proof) c.in-Awaiting.is taken in
     let answer = c.answered.ensures in
-    subst (λ bytes. IfOk c.answered.result (IsCheckReport input bytes)) (sym has.1)
-    (proof_report input [] c.answered.result refl (text_report input [] F _ c.answered.result read (nothing_given F) answer.text answer.status answer.proof answer.memory))
+    subst (λ bytes. IfOk c.answered.result (IsCheckReport L input bytes)) (sym has.1)
+    (proof_report L input [] c.answered.result refl (text_report L input [] F _ c.answered.result read (nothing_given F) answer.text answer.status answer.proof answer.memory))
 
 pub returns-in-Text : goal.returns-in-Text
-returns-in-Text c = λ input proof F read taken.
+returns-in-Text c = λ L input proof F read taken.
     let has = subst (λ s. Reaches F s proof) c.in-Text.is taken in
     let answer = c.answered-in-Text.ensures in
-    proof_report input proof c.answered-in-Text.result (form_is _ proof has.0)
-    (text_report input proof F c.finish.result c.answered-in-Text.result read (finished F c.in-Text.stream proof c.finish.result has.1 c.finish.ensures) answer.text answer.status answer.proof answer.memory)
+    proof_report L input proof c.answered-in-Text.result (form_is _ proof has.0)
+    (text_report L input proof F c.finish.result c.answered-in-Text.result read (finished F c.in-Text.stream proof c.finish.result has.1 c.finish.ensures) answer.text answer.status answer.proof answer.memory)
 
 pub returns-in-Binary : goal.returns-in-Binary
-returns-in-Binary c = λ input proof F read taken.
+returns-in-Binary c = λ L input proof F read taken.
     let has = subst (λ s. Reaches F s proof) c.in-Binary.is taken in
     let answer = c.answered_binary.ensures in
-    binary_report input proof F c.finish-in-Binary.result c.answered_binary.result read (form_is _ proof has.0)
+    binary_report L input proof F c.finish-in-Binary.result c.answered_binary.result read (form_is _ proof has.0)
     (binary_finished F c.in-Binary.stream proof c.finish-in-Binary.result has.1 c.finish-in-Binary.ensures) answer.text answer.status answer.proof answer.memory

@@ -1,0 +1,6 @@
+use Rattle.std.proofs.Common.{None}
+use Rattle.lidrup.proofs.NameLemmas.{map_changed}
+use Rattle.lidrup.proofs.names.remove_from_map.Goals as goal
+
+pub returns : goal.returns
+returns c = map_changed c.args.map.now c.remove.new.self c.args.number None c.remove.ensures.updates.0

@@ -1,6 +1,0 @@
-use Rattle.std.proofs.Common.{None}
-use Rattle.lidrup.proofs.NameLemmas.{map_changed}
-use Rattle.lidrup.proofs.names.take.Goals as goal
-
-pub returns : goal.returns
-returns c = map_changed c.args.map.now c.remove.new.self c.args.number None c.remove.ensures.updates.0

@@ -1,6 +1,0 @@
-use Rattle.std.proofs.Common.{take, All}
-use Rattle.lrat_text.specs.Grammar.{IsGroup}
-use Rattle.lrat_forms.proofs.limits.are_groups.Given as goal
-
-abbrev pub invariant-loop-i : goal.invariant-loop-i
-invariant-loop-i l = All IsGroup (take l.i l.groups)

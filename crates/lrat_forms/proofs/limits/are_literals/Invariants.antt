@@ -1,6 +1,0 @@
-use Rattle.std.proofs.Common.{take, All}
-use Rattle.dimacs.specs.logic.Literal.{IsWithin}
-use Rattle.lrat_forms.proofs.limits.are_literals.Given as goal
-
-abbrev pub invariant-loop-lit : goal.invariant-loop-lit
-invariant-loop-lit l = All (IsWithin 2000000) (take l.lit-index l.lits)

@@ -1,5 +1,0 @@
-use Rattle.std.proofs.Common.{◌≡◌, ◌∷◌, true, false, replicate}
-use Rattle.proof_lift.proofs.images.all_live.Given as goal
-
-abbrev pub invariant-loop-i : goal.invariant-loop-i
-invariant-loop-i l = l.live.items ≡ false ∷ replicate l._i true
