@@ -139,7 +139,7 @@ page of the sources.
 says that Q holds if r is `Ok`, and nothing of an error.
 
 The clauses are those of calls on whole texts. The program makes the calls that these make, on
-pieces of its files: `ProofCheck::of` for `ProofCheck::new`, and `run_solve_of`, `attend` and
+pieces of its files: `ProofCheck::of` for `ProofCheck::new`, and `run_solve_within`, `attend` and
 `run_work_of` for `run_solve`, `run_attend` and `run_work`.
 [PROOFS.md](PROOFS.md#from-a-printed-byte-to-its-contract) has the contracts by which pieces give
 what the whole text gives. The calls of a cluster are made by tests alone.
