@@ -16,7 +16,8 @@ the script is interrupted: edit in one place while the crates below and beside a
 
 --only prints what `rt check --only FUNCTION --allow-holes` says: the goals that are open.
 --edits tries the edits of must-fail over what is kept, which takes ten to thirty seconds each where
-the gate takes a whole proof for a crate's first one. The gate is `rt ci`: this only saves time
+the gate takes a whole proof for a crate's first one. Read the line that it prints: if that is no
+goal, the edit does not compile and shows nothing, which only the gate tells apart. The gate is `rt ci`: this only saves time
 while one works.
 """
 import argparse

@@ -15,5 +15,5 @@ mod step_encoder;
 mod text_form;
 
 pub use binary_form::BinaryForm;
-pub use laws::both_forms_spell_the_same;
+pub use laws::{binary_form_keeps_the_limit, both_forms_spell_the_same};
 pub use text_form::TextForm;
