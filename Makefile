@@ -7,14 +7,16 @@ FORMULA = $(CURDIR)/examples/pigeons_6.cnf
 # Proves the program with all that it stands on, and builds it.
 all:
 	@echo "proves the program and builds it: half an hour to an hour on four cores" >&2
-	cd crates/satcluster && rt run --jobs $$(nproc) -- --version
+	cd crates/satcluster && rm -f out/PROVED && rt run --jobs $$(nproc) -- --version
+	@{ git diff --quiet HEAD && git rev-parse HEAD || echo unknown; rt version; echo logic=proved; \
+	sha256sum < $(PROGRAM) | cut -d ' ' -f 1; } > crates/satcluster/out/PROVED
 
 # Decides a formula and checks the proof by the program as it stands, which is not proved yet.
 try:
 	@echo "builds the program without a proof: two or three minutes" >&2
 	@t=$$(mktemp -d) && trap 'rm -r "$$t"' EXIT && mkdir $$t/runs && cd $$t/runs && \
-	touch 1-solve 2-check && \
-	printf '%s\n' solve --depth 0 "$(FORMULA)" $$t/f.lrat > 1-solve.args && \
+	touch 1-decide 2-check && \
+	printf '%s\n' decide "$(FORMULA)" $$t/f.lrat > 1-decide.args && \
 	printf '%s\n' check "$(FORMULA)" $$t/f.lrat > 2-check.args && \
 	cd "$(CURDIR)/crates/satcluster" && rt try --cases $$t/runs | tee $$t/told && \
 	grep -q '^s VERIFIED$$' $$t/told

@@ -223,6 +223,14 @@ class Commands(Case):
         self.answers(0, None, "--help")
         self.answers(0, None, "--version")
 
+    def test_decide(self) -> None:
+        self.answers(10, "s SATISFIABLE", "decide units.cnf")
+        self.answers(20, "s UNSATISFIABLE", "decide four.cnf kept")
+        self.answers(20, "s UNSATISFIABLE", "decide --binary -q eight.cnf kept")
+        self.answers(0, "s UNKNOWN", "decide --limit 1 eight.cnf kept")
+        self.answers(1, "c cannot read input", "decide nothing.cnf")
+        self.answers(1, "c input line 3 fault 5", "decide not_ended.cnf")
+
     def test_solve(self) -> None:
         satisfiable, unsatisfiable = "s SATISFIABLE", "s UNSATISFIABLE"
         for line, words in (

@@ -34,6 +34,7 @@ from satcluster import ProgramNotFound, Solver, SolverError, dimacs
 
 SECONDS = 60  # how long a run may take
 MANY = 10000  # queries
+LARGE = 1500000  # a variable above the limit that the program has without --large
 CLAUSES = 1000000
 LIMIT = 1000  # lemmas of a step
 
@@ -191,7 +192,7 @@ class Answers(Case):
     def test_refused(self) -> None:
         """What is no literal is refused, and nothing of it sent; what came before stays."""
         solver = self.solver()
-        for clause in ([1, 0], [0], [1000001], [-1000001], [2 ** 70]):
+        for clause in ([1, 0], [0], [100000000], [-100000000], [2 ** 70]):
             self.assertRaises(ValueError, solver.add_clause, clause)
             self.assertRaises(ValueError, solver.solve, clause)
             self.assertRaises(ValueError, solver.append_formula, [[5], clause, [-5]])
@@ -319,7 +320,8 @@ class Ends(Case):
     def test_limit_of_the_program(self) -> None:
         """Its last line is told, also if it has come long before the next write."""
         solver = self.solver()
-        error = self.fails("c input line 2 fault 8", solver.solve, [1] * 1000001)
+        solver._session.add("100000000 0\n")  # what `add_clause` refuses
+        error = self.fails("c input line 2 fault 8", solver.solve)
         self.assertEqual(("c input line 2 fault 8", 1), (error.line, error.status))
 
     def test_no_room(self) -> None:
@@ -359,6 +361,10 @@ class Ends(Case):
             self.assertEqual(last, error.line)
         error = self.fails("ended", self.solver(program=self.script("printf 's UNSAT'")).solve)
         self.assertEqual("s UNSAT", error.line)
+        program = self.script("read line\necho s SATISFIABLE\necho v 1-2 0\ncat > /dev/null\n")
+        solver = self.solver(program=program)
+        self.assertTrue(solver.solve())
+        self.fails("what is no literal", solver.get_model)  # it is parsed when it is read
 
     def test_closed(self) -> None:
         with Solver([[1]]) as solver:
@@ -379,6 +385,24 @@ class Sizes(Case):
         seconds = time.monotonic() - begin
         self.is_verified(solver, MANY)
         print("%.1f us a query " % (seconds / MANY * 1e6), end="", file=sys.stderr)
+
+    def test_large_variable(self) -> None:
+        """Clauses, models and cores have it, in sessions and in whole formulas."""
+        with Solver(events=self.at("events"), proof=self.at("proof")) as solver:
+            solver.add_clause([-1, LARGE])
+            self.assertTrue(solver.solve([1]))
+            model = self.model(solver)
+            self.assertEqual((LARGE, 1, LARGE), (len(model), model[0], model[-1]))
+            self.assertFalse(solver.solve([2, 1, -LARGE]))
+            self.assertEqual([1, -LARGE], solver.get_core())
+            self.is_verified(solver, 2)
+        self.assertTrue(satcluster.check_session(self.at("events"), self.at("proof")))
+        answer = satcluster.solve([[LARGE], [-LARGE]], proof=self.at("f.lrat"))
+        self.assertIs(False, answer.status)
+        self.assertEqual(LARGE, (satcluster.solve([[LARGE]]).model or [])[-1])
+        with open(self.at("f.cnf"), "w", encoding="ascii") as file:
+            file.write("p cnf %d 2\n%d 0\n-%d 0\n" % (LARGE, LARGE, LARGE))
+        self.assertTrue(satcluster.check(self.at("f.cnf"), self.at("f.lrat")))
 
     def test_many_clauses(self) -> None:
         """They come from a generator, and the answer is read from them once more."""
@@ -672,6 +696,18 @@ class Package(unittest.TestCase):
         told = subprocess.run([os.environ["SATCLUSTER"], "--version"], stdout=subprocess.PIPE,
                               encoding="ascii").stdout
         self.assertEqual(re.findall('^version = "(.*)"', text, re.M), told.split()[1:2])
+
+    def test_scripts(self) -> None:
+        """Those of pyproject.toml stand beside the package, and find it."""
+        text = (CLIENTS / "python" / "pyproject.toml").read_text()
+        scripts = re.findall('^(satcluster-.*) = "satcluster.(.*):main"', text, re.M)
+        self.assertEqual(4, len(scripts))
+        for name, module in scripts:
+            path = CLIENTS / "python" / name
+            self.assertIn("from satcluster.%s import main" % module, path.read_text())
+            done = subprocess.run([str(path), "--help"], stdout=subprocess.PIPE, encoding="ascii")
+            self.assertEqual(0, done.returncode)
+            self.assertIn(name, done.stdout)
 
     def test_names(self) -> None:
         for name in satcluster.__all__:

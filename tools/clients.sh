@@ -5,8 +5,9 @@
 #     tools/clients.sh FOLDER      makes FOLDER/cbmc, FOLDER/yosys, FOLDER/yosys-abc
 #     SATCLUSTER_CLIENTS=FOLDER tools/solver_test.py PATH-OF-satcluster Clients
 #
-# With g++ it makes FOLDER/satcluster.so, too: yosys takes other solvers as plugins; and
-# FOLDER/cadical_session, by which tools/session_test.py has CaDiCaL prove sessions.
+# With g++ it makes FOLDER/satcluster.so and FOLDER/satcluster_session.so, too: yosys takes other
+# solvers as plugins; and FOLDER/cadical_session, by which tools/session_test.py has CaDiCaL prove
+# sessions.
 set -eu
 here=$(cd "$(dirname "$0")" && pwd)
 mkdir -p "${1:?FOLDER}/lists/partial" "$1/cache/archives/partial"
@@ -33,6 +34,12 @@ done
 if command -v g++ > log; then
     g++ -std=c++20 -O1 -fPIC -shared -D_YOSYS_ -DYOSYS_ENABLE_PLUGINS \
         -I all/usr/share/yosys/include -o satcluster.so "$here/clients/yosys_solver.cc"
+    ipasir=$here/../clients/ipasir
+    [ -d "$ipasir" ] || ipasir=$here/../../share/doc/satcluster/clients/ipasir # installed
+    gcc -O2 -fPIC -c -o ipasir.o "$ipasir/satcluster_ipasir.c"
+    g++ -std=c++20 -O1 -fPIC -shared -D_YOSYS_ -DYOSYS_ENABLE_PLUGINS -I "$ipasir" \
+        -I all/usr/share/yosys/include -o satcluster_session.so \
+        "$here/clients/yosys_session.cc" ipasir.o
     g++ -std=c++17 -O1 -I all/usr/include -o cadical_session "$here/clients/cadical_session.cc" \
         all/usr/lib/x86_64-linux-gnu/libcadical.a
 fi

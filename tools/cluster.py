@@ -151,6 +151,7 @@ class Files(Case):
         """They are read up to their first fault."""
         fault = "c input line 1 fault 1\n"
         for words, begin, text in (
+                (("decide", "/dev/stdin"), b"q cnf 1 1\n", fault),
                 (("solve", "/dev/stdin"), b"q cnf 1 1\n", fault),
                 (("check", "/dev/stdin", TWO), b"q cnf 1 1\n", fault),
                 (("check", TWO, "/dev/stdin"), b"no proof\n",
@@ -167,8 +168,8 @@ class Files(Case):
         def limit() -> None:
             resource.setrlimit(resource.RLIMIT_AS, (ROOM, ROOM))
 
-        for words in (("solve", "/dev/zero"), ("check", "/dev/zero", TWO),
-                      ("check", TWO, "/dev/zero")):
+        for words in (("decide", "/dev/zero"), ("solve", "/dev/zero"),
+                      ("check", "/dev/zero", TWO), ("check", TWO, "/dev/zero")):
             process = self.start(*words, preexec_fn=limit)
             self.ends(process, 1, "c no memory\n", words)
 

@@ -5,19 +5,20 @@
                      [--engine local|make|parallel|slurm] [--jobs N]
                      [--depth D | --look N | --cubes-from FILE]
                      [--block N] [--limit L] [--seconds S] [--no-race] [--no-cuts] [--pipe]
-                     [--compress] [--receipts] [--drop-logs]
-                     [--memory M] [--minutes T] [--scratch DIR] [--folder DIR] [-q] [-n]
-                     INPUT [PROOF]
-    tools/conquer.py --recheck FOLDER [--engine ..] [--jobs N] [-q]
+                     [--compress] [--receipts] [--drop-logs] [--binary] [--publish DIR]
+                     [--memory M] [--minutes T] [--scratch DIR] [--folder DIR] [--timeout S]
+                     [-q] [-n] INPUT [PROOF]
+    tools/conquer.py --recheck FOLDER [--engine ..] [--jobs N] [--timeout S] [-q]
+    tools/conquer.py --version
 
 INPUT may be packed by gzip, xz, bzip2 or zstd, if that is installed: it is unpacked to the folder.
-Prints the `s` and `v` lines of `satcluster solve`, and ends with its statuses: 10, 20, 0 and 1.
+Prints the `s` and `v` lines of `satcluster decide`, and ends with its statuses: 10, 20, 0 and 1.
 Each answer is one of the proved program: `join` tests every log and every assignment of a job. So a
 fault of this script, of a solver or of a disk costs time, and makes no wrong answer.
 
-All state is a folder of files, INPUT.conquer if --folder is left out. After a kill at any moment
-the same command goes on with the files that are there. COMMAND is a command line with {cnf} and
-{lrat}, or two with && between them and {drat} in both. docs/CLUSTER.md tells more.
+All state is a folder of files, INPUT.conquer if --folder is left out. After Ctrl-C, --timeout or a
+kill the same command goes on with the files that are there. COMMAND is a command line with {cnf}
+and {lrat}, or with {drat} for a solver that writes DRAT. docs/CLUSTER.md tells more.
 """
 import argparse
 import dataclasses
@@ -25,7 +26,6 @@ import json
 import os
 import shlex
 import shutil
-import signal
 import subprocess
 import sys
 from argparse import Namespace
@@ -36,10 +36,11 @@ sys.dont_write_bytecode = True
 
 from explanations.looks import LARGE, asks_for_large, head_of, header_of, packing
 from explanations.words import told, unreadable, unwritable
-from leaf_jobs import places, receipts, report
+from leaf_jobs import bundle, endings, places, receipts, report, summary
+from leaf_jobs.endings import Stopped
 from leaf_jobs.engines import ENGINES, Engine, Limits, work
 from leaf_jobs.files import Fault, Folder, last_line, publish
-from leaf_jobs.leaf import Plan
+from leaf_jobs.leaf import Plan, keep_grown
 from leaf_jobs.processes import Bell, status_of
 from leaf_jobs.run import ALL_COVERED, NOT_COVERED, Run
 from leaf_jobs.screen import Screen, plain
@@ -50,8 +51,7 @@ DRAFT = "scratch/proof.lrat"  # of a run's folder
 FOREIGN = "c cubes of another formula"
 SOLVERS = {
     "cadical": "cadical -q --lrat --no-binary {cnf} {lrat}",
-    "kissat": "kissat -q --no-factor --no-binary {cnf} {drat}"
-    " && drat-trim {cnf} {drat} -L {lrat} -t 1000000",
+    "kissat": "kissat -q --no-factor {cnf} {drat}",
 }
 BLOCK_SOLVERS = {"cadical": "cadical -q --lidrup --no-binary {icnf} {lidrup}"}
 
@@ -59,6 +59,10 @@ BLOCK_SOLVERS = {"cadical": "cadical -q --lidrup --no-binary {icnf} {lidrup}"}
 class Words(argparse.ArgumentParser):
     def error(self, message: str) -> NoReturn:
         raise Fault("c usage", message)
+
+    def format_help(self) -> str:
+        """The help, in which the script has the name by which it was called."""
+        return super().format_help().replace("tools/conquer.py", places.called(sys.argv[0]))
 
 
 def number(least: int, most: int) -> Callable[[str], int]:
@@ -70,12 +74,13 @@ def number(least: int, most: int) -> Callable[[str], int]:
     return read
 
 
-def words() -> Namespace:
-    parser = Words(usage=__doc__.split("\n\n")[1].strip(), allow_abbrev=False)
-    option, most = parser.add_argument, 1000000000
+def parser() -> Words:
+    words = Words(usage=__doc__.split("\n\n")[1].strip(), allow_abbrev=False)
+    option, most = words.add_argument, 1000000000
     option("--program", metavar="PATH", help="the proved program")
     option("--solver", metavar="NAME", default="satcluster", help="who searches under a leaf")
-    option("--engine", default="local", choices=sorted(ENGINES), help="who starts the jobs")
+    option("--engine", metavar="NAME", default="local", choices=sorted(ENGINES),
+           help="who starts the jobs: local, make, parallel or slurm")
     option("--jobs", metavar="N", type=number(1, most), help="how many at a time; as many as cores")
     option("--depth", metavar="D", type=number(0, 16), help="how deep to split; %d" % DEPTH)
     option("--look", metavar="N", type=number(1, 65536), help="look ahead, for about N leaves")
@@ -91,17 +96,26 @@ def words() -> Namespace:
     option("--receipts", action="store_true", help="each job checks its log; the end is `cover`")
     option("--drop-logs", action="store_true", help="a log is removed when its receipt stands")
     option("--recheck", metavar="FOLDER", help="make the receipts of a run anew, of its logs")
+    option("--binary", action="store_true", help="PROOF is in the binary form of LRAT")
+    option("--publish", metavar="DIR", help="make a folder with all that a referee needs")
+    option("--timeout", metavar="S", type=number(1, most),
+           help="end after S seconds, with s UNKNOWN; the same command goes on")
     option("--memory", metavar="M", type=number(1, most), help="slurm: megabytes of a task")
     option("--minutes", metavar="T", type=number(1, most), help="slurm: minutes of a task")
     option("--scratch", metavar="DIR",
            help="where jobs write what is unfinished: a node's own disk")
     option("--folder", metavar="DIR", help="where the files of the run stand; INPUT.conquer")
+    option("--version", action="store_true", help="print the version")
     option("-q", action="store_true", dest="quiet", help="no c lines")
     option("-n", action="store_true", dest="no_values", help="no v lines")
     option("INPUT", nargs="?", help="a DIMACS formula")
     option("PROOF", nargs="?", help="where the proof is written; none is, if left out")
-    asked = parser.parse_args()
-    why = wrong_words(asked)
+    return words
+
+
+def words() -> Namespace:
+    asked = parser().parse_args()
+    why = None if asked.version else wrong_words(asked)
     if why:
         raise Fault("c usage", why)
     return asked
@@ -118,6 +132,10 @@ def wrong_words(asked: Namespace) -> Optional[str]:
     if asked.block and leaves_of_job(asked) is None:
         return ("--block is for our own search, or cadical without --pipe, by --engine local "
                 "without --seconds: other jobs take one leaf")
+    if asked.binary and asked.PROOF is None:
+        return "--binary is the form of PROOF: none is named"
+    if asked.publish and (asked.receipts or asked.recheck is not None):
+        return "--publish is for a proof: --receipts and --recheck make none"
     if asked.drop_logs and (not asked.receipts or asked.PROOF is not None):
         return "--drop-logs is for --receipts without PROOF: a proof is made of logs"
     return None
@@ -163,17 +181,20 @@ def block_solver_of(asked: Namespace) -> Optional[List[str]]:
 
 def wrong_solver(asked: Namespace, line: str, commands: List[List[str]]) -> Optional[str]:
     """Why the command line of a solver is refused."""
-    missing = [mark for mark in ("{cnf}", "{lrat}") if mark not in line]
+    missing = [] if "{cnf}" in line else ["{cnf}"]
+    if "{lrat}" not in line and "{drat}" not in line:
+        missing.append("{lrat} or {drat}")
     if len(missing) == 2 and len(line.split()) == 1:
         return ("--solver %s is none of satcluster, %s; a command line of another solver has {cnf} "
-                "for the formula and {lrat} for the proof" % (line, ", ".join(sorted(SOLVERS))))
+                "for the formula and {lrat} or {drat} for the proof"
+                % (line, ", ".join(sorted(SOLVERS))))
     if missing:
         return "the command line of --solver has no %s" % " and no ".join(missing)
     if not all(commands):
         return "the command line of --solver has nothing beside &&"
     if asked.limit:
         return "--limit counts the lemmas of our own search: with another solver use --seconds"
-    if asked.pipe and len(commands) > 1:
+    if asked.pipe and (len(commands) > 1 or "{lrat}" not in line):
         return "--pipe is for a solver that writes LRAT itself, in one command"
     return None
 
@@ -183,7 +204,7 @@ def plan_of(asked: Namespace) -> Plan:
     return Plan(program, os.path.abspath(asked.INPUT), solver_of(asked), asked.limit, asked.seconds,
                 block_solver=block_solver_of(asked), compress=asked.compress, pipe=asked.pipe,
                 scratch=asked.scratch and os.path.abspath(asked.scratch),
-                receipts=asked.receipts, drops_logs=asked.drop_logs)
+                receipts=asked.receipts, drops_logs=asked.drop_logs, binary=asked.binary)
 
 
 def test_places(proof: Optional[str], formula: str) -> None:
@@ -335,6 +356,8 @@ def cores() -> int:
 def begun(asked: Namespace, screen: Screen) -> Tuple[Folder, Plan]:
     """The folder of a run, with a tree in it."""
     test_places(asked.PROOF, asked.INPUT)
+    if asked.publish:
+        bundle.test_target(asked.publish)
     plan, folder = plan_of(asked), Folder(asked.folder or asked.INPUT + ".conquer")
     folder.lock()
     plan.input = unpack(folder, plan.input)
@@ -375,14 +398,19 @@ def conquer(asked: Namespace, screen: Screen) -> int:
     limits = Limits(asked.memory, asked.minutes)
     engine = engine_of(folder, plan, screen, bell, jobs, not asked.no_race, not asked.no_cuts,
                        limits, leaves_of_job(asked) or 1)
-    run = Run(folder, plan, screen, bell, DRAFT if asked.PROOF else None)
+    run = Run(folder, plan, screen, bell, DRAFT if asked.PROOF or asked.publish else None,
+              bool(asked.publish))
     run.renew = report.Live(run, screen).renew
     try:
         engine.settle()
+        keep_grown(folder)
         folder.clean()
         folder.write("plan.json", json.dumps(dataclasses.asdict(plan)))
         status, lines = answer_of(run, engine, jobs or cores())
-    except BaseException:  # a signal, too
+    except BaseException as why:
+        if isinstance(why, Stopped):
+            done = len(run.cubes) - run.open()
+            screen.say("c %d of %d leaves closed" % (done, len(run.cubes)))
         draw(run, screen, report.NONE)
         raise
     finally:
@@ -393,16 +421,51 @@ def conquer(asked: Namespace, screen: Screen) -> int:
         fail(run, screen, before, lines[-1] if lines else "c join ends with %d" % status)
     if status == 20 and asked.PROOF:
         put_proof(folder, asked.PROOF)
+    try:
+        with endings.whole():
+            tell_answer(status, lines, screen, asked)
+        follow(run, status, asked, jobs)
+    except Stopped as why:  # the answer stands
+        screen.say("c ended: %s" % why)
+    return {ALL_COVERED: 0, NOT_COVERED: 1}.get(status, status)
+
+
+def tell_answer(status: int, lines: List[str], screen: Screen, asked: Namespace) -> None:
     for line in lines:
         if line.startswith("s ") or (line.startswith("v ") and not asked.no_values):
             screen.print(line)
         elif line.startswith("c leaf"):
             screen.say(line)
+
+
+def follow(run: Run, status: int, asked: Namespace, jobs: int) -> None:
+    """What comes after the answer, and does not change it: report, folder and summary."""
+    screen, folder = run.screen, run.folder
     if status == ALL_COVERED:
         count = len(folder.names("receipts"))
         screen.say("c covered by %d receipt%s" % (count, "s" * (count != 1)))
-    draw(run, screen, status)
-    return {ALL_COVERED: 0, NOT_COVERED: 1}.get(status, status)
+    draw(run, screen, status, asked.PROOF or (run.proof and str(folder.at(run.proof))))
+    if status == 20 and asked.publish:
+        try:
+            publish_run(run, screen, asked)
+        except (Fault, OSError) as why:
+            tell(["nothing was published: " + str(why)] + getattr(why, "reasons", []))
+    elif asked.publish:
+        screen.say("c nothing was published: there is no proof")
+    if not asked.quiet:
+        summary.tell(summary.lines(run, status, asked.INPUT, asked.PROOF, jobs))
+
+
+def publish_run(run: Run, screen: Screen, asked: Namespace) -> None:
+    """Makes the folder for referees."""
+    proof = Path(asked.PROOF) if asked.PROOF else run.folder.at(DRAFT)
+    pictures = [path for path in map(run.folder.at, report.BESIDE) if path.exists()]
+    source = bundle.Source(run.plan.program, Path(run.plan.input), proof,
+                           os.path.basename(asked.INPUT), pictures,
+                           report.how_of(run.plan, run.number - 1))
+    for line in bundle.publish(source, asked.publish):
+        screen.say("c " + line)
+    screen.say("c published in " + asked.publish)
 
 
 def tell_others(names: List[str], screen: Screen) -> None:
@@ -426,10 +489,10 @@ def foreign(folder: Folder, before: Dict[str, Any]) -> List[str]:
             "Name another folder with --folder, or " + anew(folder)]
 
 
-def draw(run: Run, screen: Screen, status: int) -> None:
+def draw(run: Run, screen: Screen, status: int, proof: Optional[str] = None) -> None:
     """Writes the report; the answer does not depend on it."""
     try:
-        screen.say("c report %s" % report.Report(run).write(status))
+        screen.say("c report %s" % report.Report(run, proof).write(status))
     except Exception as why:
         screen.say("c no report: %r" % why)
 
@@ -443,17 +506,33 @@ def tell(lines: List[str]) -> None:
         pass
 
 
+def stopped(why: Stopped, screen: Screen) -> int:
+    """What is printed of a run that ends before its answer."""
+    try:
+        screen.say("c ended: %s; the same command goes on from here:" % why)
+        screen.say("c " + " ".join(map(shlex.quote, sys.argv)))
+        screen.print(endings.UNKNOWN)
+    except OSError:  # the terminal is gone
+        os.dup2(os.open(os.devnull, os.O_WRONLY), sys.stdout.fileno())
+    return 0
+
+
 def main() -> int:
     if sys.argv[1:2] == ["--work"] and len(sys.argv) == 5:
         return work(*sys.argv[2:])
     screen = Screen(True)
-    for ending in (signal.SIGINT, signal.SIGTERM, signal.SIGHUP):
-        if ending != signal.SIGHUP or signal.getsignal(ending) != signal.SIG_IGN:  # as by nohup
-            signal.signal(ending, lambda *_: sys.exit(1))  # which ends the jobs on its way out
+    endings.listen()
     try:
         asked = words()
         screen = Screen(asked.quiet)
+        if asked.version:
+            screen.print(places.version(found(places.word_of_program(asked.program))))
+            return 0
+        if asked.timeout:
+            endings.limit(asked.timeout)
         return conquer(asked, screen)
+    except Stopped as why:
+        return stopped(why, screen)
     except Fault as fault:
         line, reasons = str(fault), fault.reasons
     except OSError as why:

@@ -8,6 +8,8 @@ how often the script is killed at random moments, at least, and how often a job 
 not set. With other engines it is a third of that. SEED draws the moments.
 """
 import collections
+import csv
+import hashlib
 import os
 import random
 import re
@@ -19,19 +21,21 @@ import tempfile
 import time
 import unittest
 from pathlib import Path
-from typing import Callable, Dict, List, NamedTuple, Tuple
+from typing import Callable, Dict, List, NamedTuple, Sequence, Tuple
 from unittest import mock
+from xml.etree import ElementTree
 
 sys.dont_write_bytecode = True
 
 import small_slurm
 from cases import EXAMPLES, pigeons, run, satisfies
-from leaf_jobs import files, processes, report, screen
+from leaf_jobs import closings, figures, files, processes, progress, report, screen
 from leaf_jobs.cuts import to_cut
 from leaf_jobs.engines import late_leaves, size_of_block
 from leaf_jobs.figures import State, state_of
 from leaf_jobs.files import Fault, answer_of, closed_by, log_of, name_of, read_cubes
-from leaf_jobs.leaf import CLOSED, ENDED, FAILED, LIMIT, Job, Leaf, Plan, Record, Records
+from leaf_jobs.leaf import (CLOSED, ENDED, FAILED, LIMIT, Job, Leaf, Plan, Record, Records, Turn,
+                            cut_log)
 from leaf_jobs.race import WHOLE
 from leaf_jobs.run import Run
 from leaf_jobs.unpacker import Unpacker
@@ -316,8 +320,8 @@ class Faults(Case):
         for told, words in (("--odd", ["--odd"]),
                             ("17 is no number from 0 to 16", ["-q", "--depth", "17"]),
                             ("none of satcluster, cadical, kissat", ["--solver", "nosuch"]),
-                            ("no {cnf} and no {lrat}", ["--solver", "true 1"]),
-                            ("no {lrat}", ["--solver", "true {cnf}"]),
+                            ("no {cnf} and no {lrat} or {drat}", ["--solver", "true 1"]),
+                            ("no {lrat} or {drat}", ["--solver", "true {cnf}"]),
                             ("--seconds", ["--limit", "9", "--solver", "true {cnf} {lrat}"])):
             self.ends(1, ["c usage"], *words, FOUR)
             self.tells(told)
@@ -397,13 +401,13 @@ class Folder(Case):
         self.ends(1, ["c folder in use"], PIGEONS)
         self.tells("under way")
         first.send_signal(signal.SIGTERM)
-        self.assertEqual((1, []), self.end(first, "a run that is ended"))
+        self.assertEqual((0, ["s UNKNOWN"]), self.end(first, "a run that is ended"))
         self.assertEqual([], self.running(PIGEONS))
         self.assertIn("pigeons.cnf: ended without answer", self.report(PIGEONS))
 
     def test_report_that_is_live(self) -> None:
         """It stands from the first leaf on, and is there after SIGTERM, with what has run."""
-        script = "grep -q '^1 0' $1 && sleep 100; exec %s solve -q --depth 0 $1 $2"
+        script = "grep -q '^1 0' $1 && sleep 100; exec %s decide -q $1 $2"
         script %= self.program
         words = ["--no-race", "--jobs", "2", "--depth", "2", "--solver",
                  self.script("waits", script), PIGEONS]
@@ -412,7 +416,7 @@ class Folder(Case):
         scratch = self.at(PIGEONS + ".conquer", "scratch")
         self.wait_for("the jobs that wait", lambda: len(list(scratch.glob("leaf_1_*"))) == 2)
         first.send_signal(signal.SIGTERM)
-        self.assertEqual((1, []), self.end(first, "a run that is ended"))
+        self.assertEqual((0, ["s UNKNOWN"]), self.end(first, "a run that is ended"))
         text = self.report(PIGEONS)
         for part in ("ended without answer", "the tree was made by --depth 2", "most memory",
                      "<td>ended<td class=cube>"):
@@ -420,10 +424,26 @@ class Folder(Case):
         self.assertNotIn("http-equiv", text, "a page that is renewed no more")
 
 
+    def test_figures_beside_the_report(self) -> None:
+        """Pictures of the tree and of the jobs, and a line of CSV for each leaf."""
+        self.ends(20, ["s UNSATISFIABLE"], "-q", "--no-race", "--depth", "4", PIGEONS, "p.lrat")
+        folder = self.at(PIGEONS + ".conquer")
+        for name in ("tree.svg", "timeline.svg"):
+            ElementTree.parse(str(folder / name))
+            self.assertIn("<rect ", (folder / name).read_text())
+        rows = list(csv.DictReader((folder / "leaves.csv").read_text().splitlines()))
+        self.assertEqual(self.leaves(PIGEONS), ["a %s 0" % row["cube"] for row in rows])
+        logs = sum(path.stat().st_size for path in self.logs(PIGEONS))
+        self.assertEqual(logs, sum(int(row["log_bytes"] or 0) for row in rows))
+        sums = [hashlib.sha256(self.at(name).read_bytes()).hexdigest()
+                for name in (PIGEONS, "p.lrat")]
+        for part in [*sums, "satcluster 0."]:
+            self.assertIn(part, self.report(PIGEONS))
+
     def test_scratch_of_a_node(self) -> None:
         """Jobs write what is unfinished to another folder, and leave nothing there."""
         self.at("near").mkdir()
-        near, solve = str(self.at("near")), "exec %s solve -q --depth 0 $1 $2" % self.program
+        near, solve = str(self.at("near")), "exec %s decide -q $1 $2" % self.program
         solver = self.script("here", 'case $1 in %s/*) %s;; esac' % (near, solve))
         for words in (["--solver", solver], ["--compress"] * bool(shutil.which("zstd"))):
             self.forget(FOUR)
@@ -434,6 +454,182 @@ class Folder(Case):
         self.forget(FOUR)
         status, lines = self.conquer("--scratch", "none", FOUR)
         self.assertEqual((0, True), (status, any("failed" in line for line in lines)), lines)
+
+
+class Endings(Case):
+    """Runs that end before their answer, by a signal or a limit of time."""
+
+    SLOW = "mkdir $0.first 2> /dev/null || sleep 60; exec %s solve -q --depth 0 $1 $2"
+
+    def words(self, *more: str) -> List[str]:
+        """A run whose first job is done at once; all others take too long."""
+        return ["--no-race", "--jobs", "2", "--depth", "3", "--solver",
+                self.script("slow", self.SLOW % self.program), *more, PIGEONS, "p.lrat"]
+
+    def has_log(self) -> bool:
+        return self.at(PIGEONS + ".conquer", "logs").exists() and bool(self.logs(PIGEONS))
+
+    def test_signals(self) -> None:
+        """What is done is told, and how it goes on; what is there is used then."""
+        for number in (signal.SIGINT, signal.SIGTERM):
+            self.forget(PIGEONS)
+            shutil.rmtree(str(self.at("slow.first")), ignore_errors=True)
+            run = self.start(*self.words())
+            self.wait_for("a log", self.has_log)
+            run.send_signal(number)
+            status, lines = self.end(run, number)
+            self.assertEqual((0, "s UNKNOWN"), (status, lines[-1]))
+            self.assertRegex(lines[-5], "^c 1 of [0-9]+ leaves closed$")
+            self.assertIn(number.name, lines[-3])
+            self.assertTrue(lines[-2].startswith("c " + str(SCRIPT)), lines)
+            self.assertTrue(lines[-2].endswith(" pigeons.cnf p.lrat"), lines)
+            self.assertEqual([], self.running(PIGEONS))
+        before = self.moments(PIGEONS)
+        self.ends(20, ["s UNSATISFIABLE"], "-q", PIGEONS, "p.lrat")
+        self.verifies(PIGEONS, "p.lrat")
+        self.assertEqual(before, {path: self.moments(PIGEONS)[path] for path in before})
+
+    def test_timeout(self) -> None:
+        began = time.monotonic()
+        self.ends(0, ["s UNKNOWN"], "-q", "--timeout", "1", *self.words())
+        self.assertLess(time.monotonic() - began, 30)
+        self.assertEqual([], self.running(PIGEONS))
+        self.assertFalse(self.at("p.lrat").exists())
+        self.assertIn("ended without answer", self.report(PIGEONS))
+        self.ends(20, ["s UNSATISFIABLE"], "-q", "--timeout", "100", FOUR)
+
+    def test_job_that_has_searched(self) -> None:
+        """Its log is kept."""
+        slow = '#!/bin/sh\ncase $1 in lift) touch %s; sleep 1;; esac\nexec %s "$@"\n'
+        self.write("lifts", slow % (self.at("lifting"), self.program))
+        self.at("lifts").chmod(0o755)
+        run = self.start("-q", *self.words("--program", str(self.at("lifts"))))
+        self.wait_for("lift", self.at("lifting").exists)
+        run.send_signal(signal.SIGTERM)
+        self.assertEqual((0, ["s UNKNOWN"]), self.end(run, "a run that is ended"))
+        self.assertEqual(1, len(self.logs(PIGEONS)))
+
+    def test_second_signal(self) -> None:
+        """It does not wait for jobs, and none is left."""
+        slow = '#!/bin/sh\ncase $1 in lift) touch %s; sleep 60;; esac\nexec %s "$@"\n'
+        self.write("lifts", slow % (self.at("lifting"), self.program))
+        self.at("lifts").chmod(0o755)
+        run = self.start("-q", *self.words("--program", str(self.at("lifts"))))
+        self.wait_for("lift", self.at("lifting").exists)
+        began = time.monotonic()
+        run.send_signal(signal.SIGINT)
+        time.sleep(0.5)
+        run.send_signal(signal.SIGINT)
+        self.assertEqual((0, ["", "s UNKNOWN"]), self.end(run, "a run that is ended"))
+        self.assertLess(time.monotonic() - began, 8)
+        self.wait_for("jobs of a run that is ended", lambda: not self.running(PIGEONS), 5)
+
+    def test_words(self) -> None:
+        """The version, and help that has the name by which the script is called."""
+        self.assertRegex(self.conquer("--version").lines[0], "^satcluster [0-9]")
+        self.assertIn("tools/conquer.py", self.conquer("--help").lines[0])
+        self.at("satcluster-conquer").symlink_to(SCRIPT)
+        told = subprocess.run([str(self.at("satcluster-conquer")), "--help"], check=True,
+                              stdout=subprocess.PIPE).stdout
+        self.assertIn(b"usage: satcluster-conquer [--program", told)
+        self.assertNotIn(b"conquer.py", told)
+        self.ends(1, ["c usage"], "--binary", FOUR)
+
+    def test_binary(self) -> None:
+        self.ends(20, ["s UNSATISFIABLE"], "-q", "--binary", PIGEONS, "p.lrat")
+        self.assertEqual(b"a", self.at("p.lrat").read_bytes()[:1])
+        self.verifies(PIGEONS, "p.lrat")
+
+    def test_summary(self) -> None:
+        """At a terminal it is told in the end how the proof is checked."""
+        master, terminal = os.openpty()
+        self.addCleanup(os.close, master)
+        words = [sys.executable, str(SCRIPT), "--program", self.program, FOUR, "f.lrat"]
+        subprocess.run(words, cwd=str(self.folder), stdout=subprocess.DEVNULL, stderr=terminal,
+                       timeout=SECONDS, check=False)
+        os.close(terminal)
+        told = os.read(master, 4096).decode().split("\r\n")
+        self.assertRegex(told[0], "^c UNSATISFIABLE after 0:0")
+        self.assertRegex(told[2], "^c proof: f.lrat, [0-9,]+ bytes")
+        words = told[3].split()[1:]
+        done = subprocess.run(words, cwd=str(self.folder), stdout=subprocess.PIPE, check=True)
+        self.assertEqual(b"s VERIFIED\n", done.stdout)
+
+
+class Publishes(Case):
+    """Folders for referees."""
+
+    PUBLISH = SCRIPT.parent / "satcluster-publish"
+
+    def published(self, *words: str) -> subprocess.CompletedProcess:
+        script = [sys.executable, str(self.PUBLISH), "--program", self.program]
+        return subprocess.run([*script, *words], cwd=str(self.folder), stdout=subprocess.PIPE,
+                              stderr=subprocess.PIPE, check=False)
+
+    def bytes_of(self, folder: str) -> Dict[str, Tuple[str, float, int]]:
+        """The sum of each file, with its moment and its rights."""
+        return {path.name: (files.digest(path), path.stat().st_mtime, path.stat().st_mode)
+                for path in self.at(folder).iterdir()}
+
+    def test_run(self) -> None:
+        """The same run makes the same bytes again, whatever stood there; checkers take them."""
+        words = ["--depth", "3", "--publish", "to", PIGEONS]
+        status, lines = self.conquer(*words)
+        self.assertEqual((20, True), (status, "c satcluster check: s VERIFIED" in lines), lines)
+        first = self.bytes_of("to")
+        self.assertEqual({"README", "SHA256SUMS", "VERDICTS", "recheck.sh", "formula.cnf.xz",
+                          "proof.lrat.xz", "tree.svg", "timeline.svg", "leaves.csv"}, set(first))
+        self.at("to", "README").write_text("spoiled")
+        self.ends(20, ["s UNSATISFIABLE"], "-q", *words, "p.lrat")
+        self.assertEqual(first, self.bytes_of("to"))
+        self.assertEqual([], list(self.folder.glob("*.part")))
+        self.at("bin").mkdir()
+        self.at("bin", "satcluster").symlink_to(shutil.which(self.program) or "")
+        path = "%s:%s" % (self.at("bin"), os.environ["PATH"])
+        done = subprocess.run([str(self.at("to", "recheck.sh"))], stdout=subprocess.PIPE,
+                              env=dict(os.environ, PATH=path), check=True)
+        self.assertIn(b"proof.lrat: OK\nsatcluster check:\ns VERIFIED\n", done.stdout)
+
+    def test_any_proof(self) -> None:
+        for proof in ("four_clauses.lrat", "four_clauses_by_definition.lrat"):
+            shutil.copy(str(EXAMPLES / proof), str(self.folder))
+            done = self.published(FOUR, proof, "to")
+            self.assertEqual((0, b"c satcluster check: s VERIFIED\n"),
+                             (done.returncode, done.stdout))
+            first = self.bytes_of("to")
+            self.published(FOUR, proof, "to")
+            self.assertEqual(first, self.bytes_of("to"))
+        text = self.at("to", "README").read_text()
+        self.assertIn("clauses    4\n", text)
+        self.assertTrue(all(len(line) <= 80 for line in text.split("\n") if "SHA" not in line))
+
+    def test_other_checkers(self) -> None:
+        """Those that are installed are asked, about the proof as text."""
+        self.at("bin").mkdir()
+        self.script("bin/lrat-check", 'grep -q " 0 " $2 && echo c VERIFIED; echo c more')
+        path = os.environ["PATH"]
+        self.addCleanup(os.environ.__setitem__, "PATH", path)
+        os.environ["PATH"] = "%s:%s" % (self.at("bin"), path)
+        done = self.published(FOUR, str(EXAMPLES / "four_clauses.lrat"), "to")
+        self.assertIn(b"\nc lrat-check: c VERIFIED\n", done.stdout)
+        self.assertIn("lrat-check: c VERIFIED\n", self.at("to", "VERDICTS").read_text())
+
+    def test_faults(self) -> None:
+        """Nothing is made of what is no proof, nor in a folder of someone else."""
+        proof = str(EXAMPLES / "four_clauses.lrat")
+        self.at("other").mkdir()
+        self.write("other/file", "")
+        for words, told in ((("schur_3_14.cnf", proof, "to"), "no proof of schur_3_14.cnf"),
+                            ((FOUR, "none", "to"), "cannot read none"),
+                            ((FOUR, proof, "none/to"), "cannot write none/to"),
+                            ((FOUR, proof, "other"), "no folder that was published"),
+                            (("--folder", "none", FOUR, proof, "to"), "tree.svg")):
+            done = self.published(*words)
+            self.assertEqual(1, done.returncode)
+            self.assertIn(told, done.stderr.decode())
+            self.assertFalse(self.at("to").exists())
+        self.ends(1, ["c cannot write other"], "--publish", "other", FOUR)
+        self.ends(1, ["c usage"], "--publish", "to", "--receipts", FOUR)
 
 
 class Solvers(Case):
@@ -472,12 +668,23 @@ class Solvers(Case):
             status, lines = self.conquer("--depth", "0", "--solver", solver, FOUR)
             self.assertEqual((0, True), (status, any(what in line for line in lines)), lines)
 
+    def test_drat(self) -> None:
+        """A solver may write DRAT, which `elaborate` makes LRAT of."""
+        for told, octal in (("s UNSATISFIABLE", r"2 0\n0\n"), ("s UNSATISFIABLE", r"a\004\000a\000"),
+                            ("elaborate ends with 1: c step 2 fault 7", r"1 2 0\n"),
+                            ("lift ends with 1", "")):
+            self.forget(FOUR)
+            solver = self.script("drat", "printf '%s' > $2; exit 20" % octal)
+            solver = solver.replace("{lrat}", "{drat}")
+            _, lines = self.conquer("--depth", "0", "--solver", solver, FOUR)
+            self.assertTrue(any(told in line for line in lines), (octal, lines))
+
     PIPED = {  # what a solver does with its FIFO, and whether that is a proof
-        "a proof": ("exec PROGRAM solve -q --depth 0 $1 $2", True),
-        "a file in its place": ("PROGRAM solve -q --depth 0 $1 $2.new; mv $2.new $2; exit 20",
+        "a proof": ("exec PROGRAM decide -q $1 $2", True),
+        "a file in its place": ("PROGRAM decide -q $1 $2.new; mv $2.new $2; exit 20",
                                 True),
-        "what is printed": ("PROGRAM solve -q --depth 0 $1 $2.new; cat $2.new > $2; exit 20", True),
-        "a proof, and no end": ("PROGRAM solve -q --depth 0 $1 $2; sleep 100", True),
+        "what is printed": ("PROGRAM decide -q $1 $2.new; cat $2.new > $2; exit 20", True),
+        "a proof, and no end": ("PROGRAM decide -q $1 $2; sleep 100", True),
         "nothing": ("exit 20", False),
         "an end before a proof": ("kill -9 $$", False),
         # `lift` closes what is left, if it has ended before the solver's end is seen.
@@ -547,7 +754,7 @@ class Races(Case):
         return lines
 
     def test_whole_formula_is_first(self) -> None:
-        lines = self.race("exec %s solve -q --depth 0 $1 $2" % self.program, "sleep 100")
+        lines = self.race("exec %s decide -q $1 $2" % self.program, "sleep 100")
         self.assertIn(self.UNSPLIT, lines)
 
     def test_lie_of_the_whole_formula(self) -> None:
@@ -555,7 +762,7 @@ class Races(Case):
         self.assertNotIn(self.UNSPLIT, lines)
 
     def test_leaves_are_first(self) -> None:
-        self.race("sleep 100", "exec %s solve -q --depth 0 $1 $2" % self.program)
+        self.race("sleep 100", "exec %s decide -q $1 $2" % self.program)
 
     def test_no_race(self) -> None:
         self.ends(20, ["s UNSATISFIABLE"], "-q", "--no-race", self.NAME)
@@ -575,7 +782,7 @@ class Cuts(Case):
     they search the whole formula or a leaf, which has units beside it."""
 
     NAME, HEADER = "schur_3_14.cnf", "^p cnf 42 163$"
-    SOLVE = "exec %s solve -q --depth 0 $1 $2"
+    SOLVE = "exec %s decide -q $1 $2"
 
     def words(self, whole: str, half: str, *more: str) -> List[str]:
         """A run of one leaf, the whole formula, whose halves have a unit each."""
@@ -723,6 +930,129 @@ class Blocks(OfBlocks):
         self.assertEqual(before, {path: self.moments(PIGEONS)[path] for path in before})
         self.verifies(PIGEONS, "p.lrat")
 
+    def test_file_that_grows(self) -> None:
+        """It has the same bytes in the end, and the same is told; what it needs is refused."""
+        self.write("p.icnf", "".join(line + "\n" for line in self.said("cubes", PIGEONS)))
+        words = ["refute", "--cubes", "p.icnf", "--leaf", "3"]
+        whole = self.said(*words, "--to", "7", PIGEONS, "whole")
+        self.write("grown", "a file of someone")
+        self.assertEqual(whole, self.said(*words, "--to", "7", "--grow", PIGEONS, "grown"))
+        self.assertEqual((5, self.at("whole").read_bytes()),
+                         (len(whole), self.at("grown").read_bytes()))
+        self.assertEqual([], self.said(*words, "--to", "7", "--grow", "-q", PIGEONS, "grown"))
+        limit = ["--to", "7", "--limit", "40", PIGEONS]
+        self.assertEqual(self.said(*words, *limit, "whole"),
+                         self.said(*words, "--grow", *limit, "grown"))
+        self.assertEqual(self.at("whole").read_bytes(), self.at("grown").read_bytes())
+        for more in (["--grow", PIGEONS, "no"], ["--to", "7", "--grow", PIGEONS],
+                     ["--to", "7", "--grow", "--binary", PIGEONS, "no"]):
+            self.assertEqual(["c usage"], self.said(*words, *more))
+        self.assertFalse(self.at("no").exists())
+        self.assertEqual(["c cannot write proof"],
+                         self.said(*words, "--to", "7", "--grow", PIGEONS, PIGEONS))
+        self.assertEqual(["c no such leaf"],
+                         self.said(*words, "--to", "99", "--grow", PIGEONS, "grown"))
+
+    def said(self, *words: str) -> List[str]:
+        """The lines that the program prints."""
+        done = subprocess.run([self.program, *words], cwd=str(self.folder), check=False,
+                              stdout=subprocess.PIPE, stderr=subprocess.DEVNULL)
+        return done.stdout.decode().split("\n")[:-1]
+
+    # The first block: three of its leaves are closed, and a part of the fourth is in the log, whose
+    # last line is cut. $9 is INPUT, and ${10} the log.
+    GROWN = """#!/bin/sh
+case "$*" in
+refute*--to*) mkdir $0.first 2> /dev/null || exec %s "$@"
+    %s refute --cubes $3 --leaf $5 --to $(($5 + 2)) --grow $9 ${10}
+    printf '%%s\\n99 1' "$(tail -n 1 ${10})" >> ${10}
+    touch $0.grown; sleep 60; exit 1;;
+esac
+exec %s "$@"
+"""
+
+    def grown(self, *words: str) -> subprocess.Popen:
+        """A run whose first block has closed three leaves, and does not end."""
+        self.at(self.write("grows", self.GROWN % ((self.program,) * 3))).chmod(0o755)
+        process = self.start("-q", "--program", str(self.at("grows")), "--no-cuts", "--block", "6",
+                             *self.WORDS, *words, PIGEONS, "p.lrat")
+        self.wait_for("a block that grows", self.at("grows.grown").exists)
+        return process
+
+    def are_kept(self, *words: str) -> None:
+        """The three leaves are, by a log without what stood behind them; none is run again."""
+        cubes = self.blocks()
+        self.assertEqual([3], [len(listed) for listed in cubes if len(listed) < 6][:1], cubes)
+        log = next(path for path in self.logs(PIGEONS) if "_to_" in path.name)
+        self.assertTrue(log.read_text().endswith(" 0\n"))
+        self.assertEqual(log.stat().st_size, closings.scan(log, cubes[0]).ends[-1])
+        before = self.moments(PIGEONS)
+        lines = self.refuted("--block", "6", *self.WORDS, *words, PIGEONS, "p.lrat")
+        self.assertLessEqual(self.to_run(lines), len(self.leaves(PIGEONS)) - 4)
+        self.assertEqual(before, {path: self.moments(PIGEONS)[path] for path in before})
+        self.verifies(PIGEONS, "p.lrat")
+
+    def test_ended_while_it_grows(self) -> None:
+        for number in (signal.SIGINT, signal.SIGTERM):
+            self.forget(PIGEONS)
+            shutil.rmtree(str(self.at("grows.first")), ignore_errors=True)
+            run = self.grown()
+            self.at("grows.grown").unlink()
+            run.send_signal(number)
+            self.assertEqual((0, ["s UNKNOWN"]), self.end(run, number))
+            self.are_kept()
+
+    def test_script_killed_while_it_grows(self) -> None:
+        """The next start finds what the block had closed, also on a disk of its own."""
+        self.at("near").mkdir()
+        for words in ([], ["--scratch", str(self.at("near"))]):
+            self.forget(PIGEONS)
+            shutil.rmtree(str(self.at("grows.first")), ignore_errors=True)
+            run = self.grown(*words)
+            self.at("grows.grown").unlink()
+            time.sleep(1.5)  # so that the script has heard of the leaves
+            kill(run.pid)
+            run.communicate()
+            self.wait_for("jobs of a killed script", lambda: not self.running(PIGEONS), 2)
+            before = len(self.logs(PIGEONS))
+            lines = self.refuted("--block", "6", *self.WORDS, *words, PIGEONS, "p.lrat")
+            self.assertLessEqual(self.to_run(lines), len(self.leaves(PIGEONS)) - 4)
+            self.assertLess(before, len(self.logs(PIGEONS)))
+            self.assertIn(3, [len(cubes) for cubes in self.blocks()])
+            self.verifies(PIGEONS, "p.lrat")
+        self.assertEqual([], list(self.at("near").iterdir()))
+
+    def test_job_killed_while_it_grows(self) -> None:
+        """Its run goes on with the other leaves."""
+        run = self.grown()
+        kill(next(pid for pid in self.running(PIGEONS) if b"grows" in
+                  Path("/proc/%d/cmdline" % pid).read_bytes().split(b"\0")[1]))
+        self.assertEqual((20, ["s UNSATISFIABLE"]), self.end(run, "a run whose job was killed"))
+        self.verifies(PIGEONS, "p.lrat")
+        records = Records(files.Folder(str(self.at(PIGEONS + ".conquer")))).all()
+        failed = [record for record in records if record.outcome == FAILED]
+        self.assertEqual([(3, [CLOSED, CLOSED, CLOSED, FAILED])],
+                         [(len(record.parts), [share.outcome for share in record.shares()])
+                          for record in failed])
+        again = [cube for record in records if record.outcome != FAILED for cube in record.cubes]
+        self.assertTrue(set(again).isdisjoint(failed[0].cubes[:3]))
+
+    def test_times_of_leaves(self) -> None:
+        """Each leaf of a block has its own time, in the report and as CSV."""
+        self.refuted("--block", "6", *self.WORDS, PIGEONS)
+        self.assertNotIn("about ", re.sub("<i>about</i>", "", self.report(PIGEONS)))
+        folder = files.Folder(str(self.at(PIGEONS + ".conquer")))
+        for record in filter(lambda record: record.behind, Records(folder).all()):
+            ends = [record.begin] + [turn.end for turn in record.turns]
+            self.assertEqual((len(record.cubes), sorted(ends)), (len(record.turns), ends))
+            self.assertLessEqual(ends[-1], record.end)
+        text = folder.at("leaves.csv").read_text()
+        rows = list(csv.DictReader(text.splitlines()))
+        times = [float(row["seconds"]) for row in rows if row["leaves_of_job"] == "6"]
+        self.assertLess(6, len(times))
+        self.assertTrue(all(seconds > 0 for seconds in times))
+        self.assertNotIn(os.uname().nodename, text.split("\n", 1)[0] + folder.at("timeline.svg").read_text())
+
     def test_limit(self) -> None:
         """Of a block that has met it those leaves are kept that are told closed; the others are cut
         in two."""
@@ -807,7 +1137,7 @@ class BlocksOfCadical(OfBlocks):
     as `cadical`, or CaDiCaL."""
 
     # What it does with a leaf's formula and the file of its proof, and with a block's.
-    ALONE = 'exec PROGRAM solve -q --depth 0 "$4" "$5"'
+    ALONE = 'exec PROGRAM decide -q "$4" "$5"'
     BLOCK = """PROGRAM session "$4" "$5" > "$5.told"
 awk '/^s SAT/ { n++ } n == 1 && /^[sv] /' "$5.told"
 grep -q '^s SAT' "$5.told" && exit 10
@@ -918,6 +1248,24 @@ exit 20"""
         self.assertEqual("0", self.facts()["open"])
         self.verifies(PIGEONS, "p.lrat")
 
+    def test_ended(self) -> None:
+        """The leaves that a block's job has closed are kept if the run is ended."""
+        block = """PROGRAM session "$4" "$5" > "$5.told"
+awk '/^q/ { n++ } n < 4' "$5" > "$5.cut"; printf 'l 99' >> "$5.cut"; mv "$5.cut" "$5"; sleep 60"""
+        self.stands(block=block)
+        run = self.start("-q", *self.words("--block", "6", PIGEONS))
+        folder = self.at(PIGEONS + ".conquer", "scratch")
+        ends = lambda: [path for path in folder.glob("*_to_*/lidrup")
+                        if path.read_bytes().endswith(b"l 99")]
+        self.wait_for("a block", lambda: folder.exists() and ends())
+        run.send_signal(signal.SIGTERM)
+        self.assertEqual((0, ["s UNKNOWN"]), self.end(run, "a run that is ended"))
+        self.assertEqual([3], [len(cubes) for cubes in self.blocks()])
+        self.stands()
+        left = self.to_run(self.refuted(*self.words(PIGEONS, "p.lrat")))
+        self.assertLessEqual(left, len(self.leaves(PIGEONS)) - 4)
+        self.verifies(PIGEONS, "p.lrat")
+
     def test_receipts(self) -> None:
         self.stands()
         words = self.words("--receipts", "--block", "6", PIGEONS)
@@ -972,7 +1320,7 @@ class Slurm(Case):
     slurm: small_slurm.SmallSlurm
     NAME = "schur_3_14.cnf"
     WORDS = ["--engine", "slurm", "--depth", "4"]
-    SOLVE = "exec %s solve -q --depth 0 $1 $2"
+    SOLVE = "exec %s decide -q $1 $2"
 
     @classmethod
     def setUpClass(cls) -> None:
@@ -1070,7 +1418,7 @@ class Slurm(Case):
             run = self.start(*words)
             self.wait_for("a job", lambda: "R" in self.slurm.says("squeue", "-h", "-o", "%t"))
             run.send_signal(ending)
-            self.assertEqual((1, []), self.end(run, ending))
+            self.assertEqual((0, ["s UNKNOWN"]), self.end(run, ending))
             self.wait_for("the array's end", self.is_idle, 20)
             scratch = self.at(self.NAME + ".conquer", "scratch")
             self.assertEqual([], list(scratch.glob("leaf*")), "what tasks have left")
@@ -1196,21 +1544,29 @@ class Units(unittest.TestCase):
         state = State(cubes, frozenset(cubes[1:]), frozenset(cubes[:1]), records)
         self.assertEqual({"leaves": "3", "closed by a log of its own": "2", "by another's log": "1",
                           "open": "0", "leaves that were cut": "1",
-                          "of these closed as one": "0", "jobs": "3", "time of all jobs": "50 s",
+                          "of these closed as one": "0", "jobs": "3", "by the clock": "30 s",
+                          "time of all jobs": "50 s",
                           "most memory": "5 MB", "mean of a leaf": "20 s", "median": "30 s",
                           "longest": "30 s, 60% of all", "logs": "2,000 bytes"},
                          dict(state.facts()))
         page = report.page("/a/<f>.cnf", "x", state, 20)
         self.assertIn("&lt;f&gt;.cnf: s UNSATISFIABLE", page)
         self.assertEqual(3, len(re.findall("<td class=cube>", page)))
-        self.assertEqual(([0, 1, 0], [("here", 0), ("here", 1)]), report.lanes_of(records))
+        self.assertEqual(([0, 1, 0], [(1, 0), (1, 1)]), report.lanes_of(records))
         self.assertEqual(([], 30.0), report.breaks_of(records))
         later = Record((2,), CLOSED, "", 100.0, 101.0, "there", 1)
         self.assertEqual(([(30.0, 70.0)], 101.0), report.breaks_of(records + [later]))
 
     def test_figures_of_a_block(self) -> None:
-        """Each of its leaves has a share of the time and of the log."""
+        """Each of its leaves has its part of the log, and the same part of the time; or an equal
+        one, if that is not known."""
         cubes = [(1, 2), (1, -2), (-1,)]
+        record = Record(cubes[0], CLOSED, "", 10.0, 40.0, "here", 300, behind=tuple(cubes[1:]),
+                        parts=(1000, 0, 2000))
+        self.assertEqual([(10.0, 20.0, 100), (20.0, 20.0, 0), (20.0, 40.0, 200)],
+                         [(share.begin, share.end, share.bytes) for share in record.shares()])
+        self.assertEqual(["about 10 s", "no time", "about 20 s"],
+                         list(map(figures.took, record.shares())))
         record = Record(cubes[0], CLOSED, "", 10.0, 40.0, "here", 1001, behind=tuple(cubes[1:]))
         facts = dict(State(cubes, frozenset(cubes), frozenset(), [record]).facts())
         self.assertEqual(["3", "3", "1", "30 s", "10 s", "1,001 bytes"], [facts[name] for name in (
@@ -1218,11 +1574,13 @@ class Units(unittest.TestCase):
             "mean of a leaf", "logs")])
 
     def test_sizes_of_blocks(self) -> None:
-        """An equal share of what waits, at most as many as are asked for, and a minute's leaves."""
+        """An equal share of what waits, at most as many as are asked for, and no more than end in
+        twenty seconds, or before the run is to end."""
         for wanted, most, waiting, jobs, mean in (
                 (15, 16, 60, 4, 0.0), (16, 16, 99, 4, 0.1), (1, 16, 3, 4, 0.1),
-                (6, 16, 99, 4, 10.0), (1, 16, 99, 4, 61.0), (99, 4096, 99, 1, 0.1)):
+                (6, 16, 99, 4, 3.0), (1, 16, 99, 4, 61.0), (99, 4096, 99, 1, 0.1)):
             self.assertEqual(wanted, size_of_block(most, waiting, jobs, mean))
+        self.assertEqual([2, 1], [size_of_block(16, 99, 4, 3.0, left) for left in (6.5, 0.1)])
 
     def test_figures_of_nothing(self) -> None:
         state = State([()], frozenset(), frozenset(), [])
@@ -1235,6 +1593,94 @@ class Units(unittest.TestCase):
         state = State([(1,), (-1,)], frozenset(), frozenset(), [race])
         self.assertEqual(("ended, 5 s", "2"), tuple(
             dict(state.facts())[name] for name in ("the whole formula unsplit", "open")))
+
+    def test_parts_of_a_log(self) -> None:
+        """Each leaf has what comes up to the first lemma that closes it, however the log is
+        read."""
+        cubes = [(1, 2), (1, -2), (-1, 2), (-1, -2)]
+        lines = ["9 3 -1 0 1 0", "10 -1 -2 0 9 0", "11 4 0 2 0", "11 d 9 0", "12 -1 0 10 11 0",
+                 "13 1 -2 0 4 0", "14 5 0 1 0", "15 1 0 14 0"]
+        self.path.write_text("\n".join(lines) + "\n")
+        sizes = [len(line) + 1 for line in lines]
+        wanted = (sum(sizes[:2]), sum(sizes[2:5]), sizes[5], sum(sizes[6:]))
+        for piece in (1, 7, 1 << 20):
+            with mock.patch.object(closings, "PIECE", piece):
+                self.assertEqual((7, wanted), closings.shape(self.path, cubes))
+        self.assertEqual((7, (sum(sizes),)), closings.shape(self.path, cubes[:1]))
+        self.path.write_text("10 -1 0 9 0\n")
+        self.assertEqual((1, (12, 0, 0)), closings.shape(self.path, [(1, 2), (1, -2), (-1,)]),
+                         "one lemma closes two, and nothing the third")
+
+    def test_log_that_is_cut(self) -> None:
+        """A log that has grown is taken up to its last whole leaf, wherever it is cut."""
+        cubes = [(1, 2), (1, -2), (-1, 2)]
+        lines = ["9 3 -1 0 1 0", "10 -1 -2 0 9 0", "11 4 0 2 0", "12 -1 2 0 10 11 0",
+                 "13 5 0 4 0", "14 1 -2 0 13 0", "15 1 2 0 14 0"]
+        text = "".join(line + "\n" for line in lines)
+        ends = [len("".join(line + "\n" for line in lines[:count])) for count in (2, 4, 6)]
+        for size in range(len(text) + 1):
+            self.path.write_text(text[:size])
+            count = sum(end <= size for end in ends)
+            self.assertEqual(count, cut_log(self.path, cubes), text[:size])
+            self.assertEqual(text[:ends[count - 1]] if count else text[:size],
+                             self.path.read_text())
+        self.assertEqual(0, cut_log(Path("/none"), cubes))
+
+    def test_shares_of_a_block_that_has_grown(self) -> None:
+        """The searched leaves have their own times, and the one at which the job was ended has the
+        rest; those behind it have none."""
+        cubes = [(1, 2), (1, -2), (-1, 2), (-1, -2)]
+        turns = (Turn(CLOSED, 12.0), Turn(LIMIT, 15.0))
+        record = Record(cubes[0], LIMIT, "", 10.0, 40.0, "here", 300, behind=tuple(cubes[1:]),
+                        parts=(600,), turns=turns)
+        self.assertEqual([(cubes[0], CLOSED, 2.0, 300), (cubes[1], LIMIT, 3.0, 0),
+                          (cubes[2], ENDED, 25.0, 0)],
+                         [(share.cube, share.outcome, share.end - share.begin, share.bytes)
+                          for share in record.shares()])
+        self.assertEqual(["2 s", "3 s", "25 s"], list(map(figures.took, record.shares())))
+
+    def test_names_of_machines(self) -> None:
+        """The same run on machines of other names makes the same pictures and figures, and tells
+        the solver without the place at which it is installed."""
+        made = set()
+        for one, other in (("a", "b"), ("z", "y")):
+            records = [Record((1,), CLOSED, "", 5.0, 6.0, one, 10),
+                       Record((-1,), CLOSED, "", 6.0, 9.0, other, 10)]
+            state = State([(1,), (-1,)], frozenset([(1,), (-1,)]), frozenset(), records)
+            scale = report.scale_of(state, state.last())
+            made.add((report.listed(state), report.workers(records, scale),
+                      report.how_of(Plan("satcluster", "f.cnf", [["/%s/s" % one, "{cnf}"]]), 0)))
+        self.assertEqual(1, len(made))
+        figures_of, _, how = made.pop()
+        self.assertIn(",machine\n1,1,by its log,closed,1,0.000,1.000,0,10,1\n", figures_of)
+        self.assertEqual("s {cnf}", how)
+
+    def test_time_left(self) -> None:
+        """It is unknown at first; then it is wide, and holds what comes if all leaves are alike."""
+        times = progress.Times([10.0] * 7)
+        now = progress.Now([5.0] * 4, most=4)
+        self.assertIsNone(times.left(now, 20))
+        self.assertEqual("time left unknown: 7 leaves of 0:10 so far", progress.told(times, None))
+        times.all.append(10.0)
+        low, high = times.left(now, 20) or (0, 0)
+        self.assertTrue(0 < low < 55 < high < 200, (low, high))
+        slow = progress.Now([500.0], most=4)
+        self.assertLess(500, (times.left(slow, 0) or (0, 0))[1], "one may go on as long as it has")
+        self.assertEqual("time left unknown", progress.told(progress.Times(), None))
+        self.assertEqual("up to 1:40 left", progress.told(times, (0.5, 100)))
+
+    def test_line_that_fits(self) -> None:
+        """No line is longer than there is room for, and none ends within a word."""
+        now = progress.Now([9.0] * 63, [15] * 63, True, 64)
+        span = "10:00:00 to 99:00:00 left"
+        whole = progress.line(12345, 65536, now, 36000, span, 7, 1000)
+        for width in range(40, len(whole) + 1):
+            line = progress.line(12345, 65536, now, 36000, span, 7, width)
+            self.assertLessEqual(len(line), width)
+            self.assertTrue(set(line.split(", ")) <= set(whole.split(", ")), line)
+        self.assertIn(span, progress.line(12345, 65536, now, 36000, span, 7, 79))
+        self.assertEqual("c 1 of 8 leaves closed, 0:09 gone, x left, 1 job on 1 leaf",
+                         progress.line(1, 8, progress.Now([1.0]), 9, "x left", 0, 79))
 
     def test_lines_of_progress(self) -> None:
         """One every ten seconds in the first minute, then every minute."""
@@ -1255,7 +1701,7 @@ class NoBell(processes.Bell):
     def __init__(self) -> None:
         self.read = -1
 
-    def wait(self, seconds: float) -> None:
+    def wait(self, seconds: float, pipes: Sequence[int] = ()) -> None:
         time.sleep(seconds)
 
 
@@ -1325,7 +1771,7 @@ class Runs(unittest.TestCase):
     def test_leaf_that_is_cut(self) -> None:
         """The one that has run longest, and twice the mean of those that are closed; each once."""
         run, now = self.run_of(), time.monotonic()
-        run.closed, run.spent = 2, 20.0
+        run.times.all = [10.0, 10.0]
 
         def job(cube: files.Cube, seconds: float) -> Job:
             return job_of(Leaf(cube, run.tree, 1, False), now - seconds)
@@ -1335,7 +1781,7 @@ class Runs(unittest.TestCase):
         self.assertIsNone(to_cut(run, jobs[2:]))
         run.cut(jobs[1].leaf)  # which `true` does not
         self.assertIs(jobs[0], to_cut(run, jobs))
-        run.closed, run.spent = 0, 0.0
+        run.times.all = []
         self.assertIsNone(to_cut(run, [job((1, 2), 1.9)]))
 
     def test_block_that_is_taken_apart(self) -> None:
@@ -1344,7 +1790,7 @@ class Runs(unittest.TestCase):
         for outcome in (CLOSED, FAILED):
             run, now = self.run_of(), time.monotonic()
             block, last = run.take(3), self.CUBES[:1]
-            run.closed, run.spent = 2, 20.0
+            run.times.all = [10.0, 10.0]
             jobs = [job_of(block, now - seconds) for seconds in (59, 61)]
             self.assertIs(jobs[1], to_cut(run, jobs))
             run.cut(block)
@@ -1366,7 +1812,7 @@ class Runs(unittest.TestCase):
                 for leaf, seconds in zip(leaves, (31, 90, 29, 50, 99))}
         cuts = [leaf.cube for leaf in late_leaves(run, leaves, seen)]
         self.assertEqual([(1, -2), (-1, -2), (1, 2)], cuts, "(9,) is no leaf any more")
-        run.closed, run.spent = 2, 60.0
+        run.times.all = [30.0, 30.0]
         self.assertEqual([leaves[1]], late_leaves(run, leaves, seen))
 
     def test_leaf_whose_halves_are_closed(self) -> None:

@@ -7,9 +7,10 @@ Makes out/satcluster-VERSION-linux-x86_64, a folder with `install.sh` and what i
 it as .tar.xz beside it, of which the same commit and program make the same bytes. With --tree it
 makes the folder alone, and prints its path.
 
-`.ci/run` notes in out/gate which commit and program the gate has passed, with which kit, and its
-last line. Without a note of this program and commit no archive is made, but by --ungated: then
-PROVED says that it is not known to be proved.
+`.ci/run` notes in out/gate, and beside the program in PROVED, which commit the gate has passed, with
+which kit, its last line, and the SHA-256 of the program; `make` notes in PROVED what it has built.
+Without a note of a gate, of this program and commit, no archive is made, but by --ungated: then
+PROVED says what is known.
 """
 import argparse
 import hashlib
@@ -30,12 +31,16 @@ import manual
 ROOT = Path(__file__).resolve().parent.parent
 OUT = ROOT / "out"
 DOC = "share/doc/satcluster"
-TOOLS = ("conquer.py", "satcluster-solver", "clients.sh", "leaf_jobs/*.py", "drop_in_solver/*.py",
-         "explanations/*.py", "clients/*.cc")
+TOOLS = ("conquer.py", "satcluster-solver", "satcluster-publish", "clients.sh", "leaf_jobs/*.py",
+         "drop_in_solver/*.py", "explanations/*.py", "clients/*.cc")
 PAGES = ("README.md", "CHANGELOG.md", "LICENSE", "docs/*.md", "docs/dev/*.md", "docs/pictures/*",
-         "examples/*", "clients/python/*.toml", "clients/python/satcluster/*", "clients/ipasir/*")
+         "examples/*", "clients/python/*", "clients/python/satcluster/*",
+         "clients/python/satcluster/pysat/*", "clients/ipasir/*")
 LINKS = {"bin/satcluster-solver": "../lib/satcluster/satcluster-solver",
-         "bin/satcluster-conquer": "../lib/satcluster/conquer.py"}
+         "bin/satcluster-conquer": "../lib/satcluster/conquer.py",
+         "bin/satcluster-publish": "../lib/satcluster/satcluster-publish"}
+LINKS.update({"bin/satcluster-" + name: "../%s/clients/python/satcluster-%s" % (DOC, name)
+              for name in ("maxsat", "maxsat-check", "mus", "backbone")})
 
 
 def git(*words: str) -> str:
@@ -67,28 +72,32 @@ def layout(program: Path) -> Dict[str, Path]:
     return places
 
 
-def is_gated(note: List[str], program: Path) -> bool:
-    """Whether the note is of this program, and of the commit as it stands here."""
+def is_noted(note: List[str], program: Path) -> bool:
+    """Whether a note is of this program, by a kit of its own, and of the commit as it stands here."""
     commit = git("rev-parse", "HEAD")
-    return (len(note) == 4 and note[0] == commit != "" and note[2].endswith(", 0 failed")
+    return (len(note) == 4 and note[0] == commit != ""
             and note[1].split()[-1] in manual.program().kits and note[3] == digest(program)
             and not git("status", "--porcelain"))
 
 
+def is_gated(note: List[str], program: Path) -> bool:
+    return is_noted(note, program) and note[2].endswith(", 0 failed")
+
+
 def statement(program: Path, note: List[str]) -> str:
-    """What the program was proved by."""
+    """What the program was proved by. `--version` reads the first line, the last one, and the one
+    before that."""
     libc = max(map(int, re.findall(rb"GLIBC_2\.(\d+)", program.read_bytes())), default=0)
     found = manual.program()
-    commit = git("rev-parse", "HEAD") or "unknown"
-    lines = ["satcluster %s (%s), commit %s" % (found.version, found.kits, commit)]
-    if is_gated(note, program):
-        lines += ["proved by the gate of `%s`, whose last line is: %s" % (note[1], note[2])]
-    else:
-        lines += ["Not known to be proved: no gate was noted for this program and commit."]
-    lines += ["SHA-256 of the program: " + digest(program),
-              "It wants Linux, a processor of x86-64-v2 and the GNU C library, 2.%d or later;"
-              % libc,
-              "the tools want Python 3.8 or later."]
+    kit, end = "no kit", "not known to be proved: neither a gate nor a build of this commit is noted"
+    if is_noted(note, program):
+        kit, end = note[1:3]
+    lines = [git("rev-parse", "HEAD") or "unknown",
+             "is the commit of this satcluster %s (%s)." % (found.version, found.kits),
+             "It wants Linux, a processor of x86-64-v2 and the GNU C library, 2.%d or later;" % libc,
+             "the tools want Python 3.8 or later.",
+             "Below: the kit that proved it, how the proof ended, and the SHA-256 of the program.",
+             kit, end, digest(program)]
     return "\n".join(lines) + "\n"
 
 
@@ -124,6 +133,10 @@ def pack(tree: Path, archive: Path) -> None:
             file.add(path, path.relative_to(tree.parent), recursive=False, filter=plain)
 
 
+def read_note(path: Path) -> List[str]:
+    return path.read_text(encoding="utf-8").splitlines() if path.exists() else []
+
+
 def main() -> None:
     parser = argparse.ArgumentParser(usage=__doc__.split("\n\n")[1].strip())
     parser.add_argument("--tree", action="store_true")
@@ -132,8 +145,9 @@ def main() -> None:
     asked = parser.parse_args()
     if not asked.program.is_file():
         raise SystemExit("%s is not built: make" % asked.program)
-    gate = OUT / "gate"
-    note = gate.read_text(encoding="utf-8").splitlines() if gate.exists() else []
+    note = read_note(OUT / "gate")
+    if not is_gated(note, asked.program):
+        note = read_note(asked.program.with_name("PROVED"))
     if not (asked.ungated or is_gated(note, asked.program)):
         raise SystemExit("no gate was noted of this program and commit: make check")
     tree = OUT / ("satcluster-%s-linux-x86_64" % manual.program().version)

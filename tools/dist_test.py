@@ -4,8 +4,9 @@
     tools/dist_test.py PATH-OF-satcluster [CASE ..]
 
 A CASE is Archive, or Archive.test_empty_root; they run alone, and in any order. What needs chroot
-(by root, or by `unshare -r`), man, zsh or fish is skipped, and told, if that is not to be had.
+(by root, or by `unshare -r`), pip, man, zsh or fish is skipped, and told, if that is not to be had.
 """
+import importlib.util
 import os
 import re
 import shutil
@@ -28,8 +29,13 @@ from cases import EXAMPLES, ROOT, pigeons, run
 NAME = "satcluster-%s-linux-x86_64" % manual.program().version
 ARCHIVE = ROOT.parent / "out" / (NAME + ".tar.xz")
 SUMS = "share/doc/satcluster/SHA256SUMS"
+PROVED = "share/doc/satcluster/PROVED"
 PLAIN = {"PATH": "/usr/bin:/bin:/usr/sbin:/sbin", "HOME": "/nonexistent", "LC_ALL": "C.UTF-8"}
 SECONDS = 60
+ONE_FORMULA = """import satcluster
+with satcluster.Solver([[1, 2], [-1, 2]]) as solver:
+    print(satcluster.__file__, solver.solve([-2]), solver.get_core(), solver.verify())
+"""
 
 
 def output(*words: object, status: int = 0, env: Optional[Dict[str, str]] = None) -> str:
@@ -108,7 +114,17 @@ class Archive(unittest.TestCase):
             self.assertEqual("s UNSATISFIABLE\n", lines)
             self.assertEqual("s VERIFIED\n", output(*begin, program, "check", f, proof))
         version = output(*begin, program, "--version")
-        self.assertEqual("satcluster %s (%s)\n" % manual.program()[:2], version)
+        first, second = version.splitlines()
+        self.assertEqual("satcluster %s (%s)" % manual.program()[:2], first)
+        for tool in ("-conquer", "-publish"):
+            self.assertEqual(first + "\n", output(*begin, program + tool, "--version"))
+        noted = (self.tree / PROVED).read_text().splitlines()
+        told = "not proved"
+        if noted[-2].endswith(", 0 failed"):
+            told = "proved by the gate of " + noted[0]
+        elif noted[-2] == "logic=proved":
+            told = "proved by a build of " + noted[0]
+        self.assertEqual(told, second)
 
     def test_same_bytes(self) -> None:
         before = os.umask(0o077)
@@ -121,7 +137,7 @@ class Archive(unittest.TestCase):
         names = {line[66:] for line in lines} | {SUMS, "install.sh"}
         self.assertEqual({self.tree / name for name in names}, files)
         subprocess.run(["sha256sum", "--quiet", "-c", SUMS], cwd=self.tree, check=True)
-        said = (self.tree / "share/doc/satcluster/PROVED").read_text()
+        said = (self.tree / PROVED).read_text()
         self.assertIn(manual.program().kits, said)
         self.assertRegex(said, "GNU C library, 2[.][0-9]+")
 
@@ -135,11 +151,28 @@ class Archive(unittest.TestCase):
                     (2, "9 passed, 0 failed (dimacs and the crates below alone: not the gate)"))]
         tells = {"rev-parse": "c0ffee", "status": ""}
         with mock.patch.object(dist, "git", lambda *words: tells[words[0]]):
-            self.assertIn("gate of `%s`" % kit, dist.statement(program, note))
+            self.assertTrue(dist.statement(program, note).endswith("\n".join(note[1:]) + "\n"))
             for bad in spoiled + [[], note[:3]]:
-                self.assertIn("Not known to be proved", dist.statement(program, bad))
+                self.assertFalse(dist.is_gated(bad, program))
             tells["status"] = " M crates.txt"
-            self.assertIn("Not known to be proved", dist.statement(program, note))
+            self.assertFalse(dist.is_gated(note, program))
+            self.assertIn("not known to be proved", dist.statement(program, note))
+
+    def test_identity(self) -> None:
+        """A note of another program's bytes, or of a gate that failed, claims nothing."""
+        room = self.room / "identity"
+        room.mkdir()
+        program = room / "satcluster"
+        shutil.copy(os.environ["SATCLUSTER"], program)
+        note = ["c0ffee", "a kit", "9 passed, 0 failed", dist.digest(program)]
+        told = {(): "not known whether it is proved", tuple(note): "proved by the gate of c0ffee",
+                (*note[:2], "logic=proved", note[3]): "proved by a build of c0ffee",
+                (*note[:2], "9 passed, 1 failed", note[3]): "not proved",
+                (*note[:3], "0" * 64): "not proved", tuple(note[:3]): "not proved"}
+        for lines, line in told.items():
+            if lines:
+                (room / "PROVED").write_text("\n".join(lines) + "\n")
+            self.assertEqual(line, output(program, "--version").splitlines()[1])
 
     def test_wants_libc_alone(self) -> None:
         names = {Path(name).name for name in libraries([self.tree / "bin" / "satcluster"])}
@@ -172,6 +205,45 @@ class Archive(unittest.TestCase):
         output(self.tree / "install.sh", "--remove", prefix)
         self.assertEqual([], [path for path in prefix.rglob("*") if not path.is_dir()])
 
+    def test_package(self) -> None:
+        """Python finds the package by PYTHONPATH, and the program by the package's place."""
+        package = self.installed("package") / dist.DOC / "clients" / "python"
+        self.solves(package)
+
+    @unittest.skipUnless(importlib.util.find_spec("pip"), "pip is not installed")
+    def test_package_by_pip(self) -> None:
+        """It needs no network and no other package, and leaves nothing where the package stands."""
+        prefix, target = self.installed("by pip"), self.room / "target"
+        output(sys.executable, "-m", "pip", "install", "--no-index", "--no-build-isolation",
+               "--target", target, prefix / dist.DOC / "clients" / "python")
+        self.solves(target, SATCLUSTER=str(prefix / "bin" / "satcluster"))
+        self.assertTrue((target / "satcluster" / "py.typed").exists())
+        told = output(target / "bin" / "satcluster-mus", "--help", env={"PYTHONPATH": str(target)})
+        self.assertIn("satcluster-mus", told)
+        output(self.tree / "install.sh", "--remove", prefix)
+        self.assertEqual([], [path for path in prefix.rglob("*") if not path.is_dir()])
+
+    def solves(self, package: Path, **env: str) -> None:
+        """A program that imports the package from this folder."""
+        told = output(sys.executable, "-c", ONE_FORMULA, env=dict(env, PYTHONPATH=str(package)))
+        self.assertEqual("%s False [-2] s VERIFIED, c 1 queries: 0 satisfiable, 1 unsatisfiable, "
+                         "0 unknown\n" % (package / "satcluster" / "__init__.py"), told)
+
+    def test_words_of_install(self) -> None:
+        """Help goes to standard output. With a word that is not known nothing is copied."""
+        prefix = self.room / "nowhere"
+        for words, status in ((["--help"], 0), (["-h", prefix], 0), (["--remove", "--help"], 0),
+                              (["--odd", prefix], 2), ([prefix, "-r"], 2)):
+            done = subprocess.run([str(word) for word in (self.tree / "install.sh", *words)],
+                                  stdout=subprocess.PIPE, stderr=subprocess.PIPE, encoding="utf-8")
+            told, nothing = done.stdout, done.stderr
+            if status:
+                told, nothing = nothing, told
+            self.assertEqual((status, ""), (done.returncode, nothing), words)
+            for word in ("--remove", "PREFIX", "/usr/local"):
+                self.assertIn(word, told)
+            self.assertFalse(prefix.exists())
+
     def test_make(self) -> None:
         prefix, words = self.room / "made", ["make", "-s", "-C", ROOT.parent]
         output(*words, "install", "PREFIX=/opt/x", "DESTDIR=%s" % prefix,
@@ -202,25 +274,31 @@ class Archive(unittest.TestCase):
 
     @unittest.skipUnless(shutil.which("man"), "man is not installed")
     def test_man(self) -> None:
-        page = self.tree / "share" / "man"
-        told = output("man", "--warnings", "-M", page, "satcluster", env={"MANWIDTH": "80"})
-        self.assertIn("--patience N", told)
-        self.assertNotIn("warning", told)
+        pages = self.tree / "share" / "man"
+        for name, word in (("satcluster", "--patience N"), ("satcluster-conquer", "--timeout S"),
+                           ("satcluster-publish", "--folder DIR")):
+            told = output("man", "--warnings", "-M", pages, name, env={"MANWIDTH": "80"})
+            self.assertIn(word, told)
+            self.assertNotIn("warning", told)
 
     def test_bash(self) -> None:
-        file = self.tree / "share/bash-completion/completions/satcluster"
-        for words, first in (("satcluster dr", "drill"), ("satcluster solve --de", "--depth")):
-            line = '. "$0"; COMP_WORDS=(%s) COMP_CWORD=%d; _satcluster x %s y; echo "$COMPREPLY"'
-            count, last = len(words.split()) - 1, words.split()[-1]
-            self.assertEqual(first + "\n", output("bash", "-c", line % (words, count, last), file))
+        for words, first in (("satcluster dr", "drill"), ("satcluster solve --de", "--depth"),
+                             ("satcluster-conquer --ti", "--timeout"),
+                             ("satcluster-publish --fo", "--folder")):
+            tool, *_, last = words.split()
+            file = self.tree / "share/bash-completion/completions" / tool
+            line = '. "$0"; COMP_WORDS=(%s) COMP_CWORD=%d; _%s x %s y; echo "$COMPREPLY"'
+            line %= words, len(words.split()) - 1, tool.replace("-", "_"), last
+            self.assertEqual(first + "\n", output("bash", "-c", line, file))
 
     def test_zsh_and_fish(self) -> None:
-        for shell, file in (("zsh", "zsh/site-functions/_satcluster"),
-                            ("fish", "fish/vendor_completions.d/satcluster.fish")):
+        for shell, files in (("zsh", "zsh/site-functions/_satcluster*"),
+                             ("fish", "fish/vendor_completions.d/satcluster*.fish")):
             with self.subTest(shell):
                 if not shutil.which(shell):
                     self.skipTest(shell + " is not installed")
-                output(shell, "-n", self.tree / "share" / file)
+                for file in (self.tree / "share").glob(files):
+                    output(shell, "-n", file)
 
 
 if __name__ == "__main__":

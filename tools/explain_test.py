@@ -5,6 +5,7 @@ and tells on standard error what is wrong, in the sentences of the table.
     tools/explain_test.py PATH-OF-satcluster [CASE ..]
 """
 import os
+import pty
 import shutil
 import subprocess
 import sys
@@ -21,7 +22,8 @@ from explanations.faults import TABLES, Row, other_lines, variants
 FOUR = str(EXAMPLES / "four_clauses.cnf")
 EVENTS = "p inccnf\n1 2 0\na 1 0\n"
 COMMANDS = {  # by which a file of each table is read
-    "input": ["solve", "--depth", "0", "example"], "proof": ["check", FOUR, "example"],
+    "input": ["decide", "example"], "proof": ["check", FOUR, "example"],
+    "drat": ["check", "--drat", FOUR, "example"],
     "cubes": ["leaf", "--cubes", "example", "--leaf", "1", FOUR],
     "answer": ["model", FOUR, "example"], "events": ["check", "--session", "example", "example"],
     "session": ["check", "--session", "events", "example"],
@@ -30,7 +32,8 @@ LOOKS = (  # by which command a file is read, its bytes, and what it is
     ("proof", b"a\x04\x00a\x06\x00a\x08\x00", "BinaryDrat"),
     ("proof", b"a\x81\x02\x00d\x81\x02\x00a\x06\x00", "BinaryDrat"),
     ("proof", b"1 2 0\nd 1 2 0\n0\n", "Drat"), ("proof", b"0\n", "Drat"),
-    ("proof", b"d 1 2 0\n2 0\n0\n", "Drat"), ("proof", b"o 1  1 2 0\n", "Frat"),
+    ("proof", b"d 1 2 0\n2 0\n0\n", "Drat"), ("proof", b"5 2 0 1 2 0\nd 1 2 0\n", "Drat"),
+    ("proof", b"o 1  1 2 0\n", "Frat"),
     ("proof", b"a 5  2 0  l 1 2 0\n", "Frat"), ("proof", b"o\x02\x04\x00", "BinaryFrat"),
     ("proof", b"5 2 0 1 2 0\r\n", "LineEnds"), ("proof", b"5 2 0 1 2 0\nc x\n", "Comments"),
     ("proof", b"pseudo-Boolean proof version 2.0\n", "VeriPb"),
@@ -100,6 +103,55 @@ class Case(unittest.TestCase):
         return end.told
 
 
+class Terminal(Case):
+    """What is told without a word if standard error is a terminal."""
+
+    def at_terminal(self, *words: str) -> End:
+        keyboard, screen = pty.openpty()
+        with subprocess.Popen([self.program, *words], cwd=str(self.folder), stdin=subprocess.DEVNULL,
+                              stdout=subprocess.PIPE, stderr=screen) as run:
+            os.close(screen)
+            told = b""
+            while True:
+                try:
+                    piece = os.read(keyboard, 4096)
+                except OSError:  # Linux: nobody has the other end open
+                    break
+                told += piece
+            assert run.stdout
+            lines = run.stdout.read()
+        os.close(keyboard)
+        texts = (text.decode().replace("\r", "").split("\n")[:-1] for text in (lines, told))
+        return End(run.returncode, *texts)
+
+    def test_as_with_the_word(self) -> None:
+        self.write("bad.cnf", "p cnf 2 1\n3 0\n")
+        for words in (["check", "bad.cnf", FOUR], ["check", "absent", FOUR], ["chek"],
+                      ["solve", "--limt", "3", FOUR], ["solve", "--depth", "0", FOUR]):
+            asked = self.run_program(*words, "--explain")
+            end = self.at_terminal(*words)
+            self.assertEqual(asked, end)
+            none = self.at_terminal(*words, "--explain", "--no-explain")
+            self.assertEqual((asked.status, asked.lines, []), none)
+            self.assertEqual([], self.run_program(*words).told)
+
+    def test_help_without_words(self) -> None:
+        end = self.at_terminal()
+        self.assertEqual((1, ["c usage"]), end[:2])
+        self.assertEqual(self.run_program("--help").lines[:5], end.told[:5])
+        self.assertEqual([], self.at_terminal("--no-explain").told)
+        self.assertEqual(End(1, ["c usage"], []), self.run_program())
+
+    def test_nearest(self) -> None:
+        for words, meant in ((["chek"], "check"), (["slove"], "solve"), (["frobnicate"], None),
+                             (["check", "--sesion", "a", "b"], "--session"),
+                             (["solve", "--no-explan", "a"], "--no-explain"),
+                             (["solve", "-x", "a"], None), (["solve", "--" + "x" * 99], None)):
+            told = self.run_program(*words, "--explain").told
+            found = [line for line in told if line.startswith("c Do you mean ")]
+            self.assertEqual(["c Do you mean %s?" % meant] if meant else [], found, words)
+
+
 class Faults(Case):
     def test_examples(self) -> None:
         looks = {row.sentence: row.key for row in variants("looks", "Look")}
@@ -109,12 +161,13 @@ class Faults(Case):
             for number, example in table.examples.items():
                 self.write("example", example)
                 words = COMMANDS[table.name]
-                is_second = table.name in ("proof", "answer", "session")
+                is_second = table.name in ("proof", "drat", "answer", "session")
+                unit = "step" if table.name == "drat" else "line"
                 fault = self.explained(*words).lines[1 if is_second else 0]
-                self.assertRegex(fault, r"line \d+ fault %d$" % number, (table.name, example))
-                place = fault.split("line ")[1].split()[0]
+                self.assertRegex(fault, r"%s \d+ fault %d$" % (unit, number), (table.name, example))
+                place = fault.split(unit + " ")[1].split()[0]
                 sentence = rows[str(number)].sentence
-                told = self.tells(["example, line %s: %s" % (place, sentence)], *words)
+                told = self.tells(["example, %s %s: %s" % (unit, place, sentence)], *words)
                 found = [looks[line[2:]] for line in told if line[2:] in looks]
                 is_bare = (table.name, number) == ("input", 1)
                 self.assertEqual(["Clauses"] if is_bare else [], found, (table.name, example))
@@ -136,6 +189,20 @@ class Faults(Case):
             told = [line[2:] for line in self.explained(*COMMANDS[table]).told]
             found = [sentences[line] for line in told if line in sentences]
             self.assertEqual([wanted] if wanted else [], found, (data, told))
+
+    def test_drat(self) -> None:
+        """Whatever command takes LRAT, a line that spells a DRAT step is told to be one for `--drat`."""
+        tree = self.tree()
+        lines = (b"1 2 0\n", b"0\n", b"d 1 2 0\n2 0\n", b"5 2 0 1 2 0\nd 1 2 0\n", b"a\x04\x00a\x00")
+        for data in lines:
+            for words in (["check", FOUR, "f.drat"], ["trim", FOUR, "f.drat", "new"],
+                          ["join", "--cubes", tree, FOUR, "new", "f.drat"],
+                          ["lift", "--cubes", tree, "--leaf", "1", FOUR, "f.drat", "new"],
+                          ["receipt", "--cubes", tree, FOUR, "f.drat", "new"]):
+                # The formula of the leaf has a clause more, so a lemma's number is one more.
+                lifted = data.replace(b"5 2 0", b"6 2 0") if words[0] == "lift" else data
+                self.write("f.drat", lifted)
+                self.tells(["satcluster check --drat INPUT f.drat"], *words)
 
     def test_command_that_is_told(self) -> None:
         self.write("bare.cnf", "1 2 0 -1\n2 0\n")
@@ -177,6 +244,11 @@ class Faults(Case):
         words = ["lift", "--cubes", self.tree(), "--lidrup", FOUR, "bad", "out"]
         self.tells(["bad, line 1: The line is none of LIDRUP"], *words)
 
+    def test_lifted_drat(self) -> None:
+        self.write("bad", "2 0\n-1")
+        words = ["lift", "--drat", "--cubes", self.tree(), "--leaf", "1", FOUR, "bad", "out"]
+        self.tells(["bad, step 2: The proof ends within a step."], *words)
+
     def test_standard_input(self) -> None:
         self.tells(["standard input, line 2: A variable"], "solve", "-", given=b"p cnf 1 1\n2 0\n")
         read, write = os.pipe()
@@ -210,7 +282,7 @@ class Files(Case):
         os.mkdir(str(self.folder / "folder"))
         shutil.copy(FOUR, str(self.folder / "f.cnf"))
         for key, name in (("NoFolder", "none/f"), ("InFolder", "folder"), ("Read", "f.cnf")):
-            end = self.explained("solve", "--depth", "0", "f.cnf", name)
+            end = self.explained("decide", "f.cnf", name)
             self.assertEqual((1, ["c cannot write proof"]), (end.status, end.lines), name)
             self.assertIn("c " + self.reason(key, name), end.told)
 
@@ -237,7 +309,8 @@ class Words(Case):
         self.reason("NotTogether", "", "solve", "--", "f", "g", "h")
         self.reason("StandardInput", "", "check", "-", "-")
         self.reason("StandardInput", "", "solve", FOUR, "-")
-        for more in ("", "--to 2", "--leaf 1 --to 2", "--lidrup --leaf 1", "--lidrup --to 2"):
+        for more in ("", "--to 2", "--leaf 1 --to 2", "--lidrup --leaf 1", "--lidrup --to 2",
+                     "--drat", "--drat --leaf 1 --to 2", "--drat --lidrup"):
             self.reason("LeafOrLidrup", "", "lift", "--cubes", "f", *more.split(), FOUR, "g", "h")
         end = self.run_program("--explain")
         self.assertEqual((1, ["c usage"]), (end.status, end.lines))
@@ -255,14 +328,14 @@ class Words(Case):
             end = self.run_program(*words)
             self.assertEqual((1, ["c cannot read input"]), (end.status, end.lines), words)
             self.assertEqual("c There is no file none.", end.told[0], words)
-        end = self.run_program("solve", "--depth", "0", "--", "--explain")
+        end = self.run_program("decide", "--", "--explain")
         self.assertEqual((1, ["c cannot read input"], []), end)
         shutil.copy(FOUR, str(self.folder / "--explain"))
-        end = self.run_program("solve", "--depth", "0", "--", "--explain")
+        end = self.run_program("decide", "--", "--explain")
         self.assertEqual((20, ["s UNSATISFIABLE"], []), end)
 
     def test_right_runs(self) -> None:
-        for words in (["solve", "--depth", "0", FOUR], ["--help"], ["solve", "--help"],
+        for words in (["decide", FOUR], ["--help"], ["solve", "--help"],
                       ["cubes", FOUR], ["solve", str(EXAMPLES / "random_100_sat.cnf")]):
             self.assertEqual([], self.explained(*words).told, words)
         help_lines = self.run_program("trim", "--help").lines

@@ -13,19 +13,19 @@ sys.dont_write_bytecode = True
 from explanations.faults import TABLES, Row, Table, other_lines, variants
 
 PAGE = Path(__file__).resolve().parent.parent / "docs" / "FAULTS.md"
-TITLES = {"input": "A formula", "proof": "A proof", "cubes": "Cubes", "answer": "An answer",
+TITLES = {"input": "A formula", "proof": "A proof", "drat": "A DRAT proof", "cubes": "Cubes", "answer": "An answer",
           "events": "The events of a session", "session": "The proof of a session"}
 HEAD = """# What a fault means, and what to do
 
 *`tools/faults.py` makes this page of the sentences in `crates/explanations/src` and of the examples
 in `tools/explanations/faults.py`.*
 
-The program prints the number and the line. With `--explain` it prints these sentences, too
-([COMMANDS.md](COMMANDS.md#--explain)); `tools/satcluster-solver` and `tools/conquer.py` have it do
-so. [FORMATS.md](FORMATS.md) has what exactly each number stands for: [formulas](FORMATS.md#dimacs),
-[proofs](FORMATS.md#steps), [cubes](FORMATS.md#icnf), [answers](FORMATS.md#answers), the
-[events](FORMATS.md#events) of sessions and [their proofs](FORMATS.md#lidrup). In examples `/` is a
-line end.
+The program prints the number and the line. With `--explain`, or on a terminal, it prints these
+sentences, too ([COMMANDS.md](COMMANDS.md#--explain)); `tools/satcluster-solver` and
+`tools/conquer.py` have it do so. [FORMATS.md](FORMATS.md) has what exactly each number stands for:
+[formulas](FORMATS.md#dimacs), [proofs](FORMATS.md#steps), [cubes](FORMATS.md#icnf),
+[answers](FORMATS.md#answers), the [events](FORMATS.md#events) of sessions and
+[their proofs](FORMATS.md#lidrup). In examples `/` is a line end.
 """
 REASONS = """## Words and files
 

@@ -185,7 +185,9 @@ def standard_input(bench: Bench) -> None:
             ("f.cnf", right, "check /dev/stdin proof"),
             ("f.cnf", (1, b"c input line 1 fault 1\n"), "check ./- proof"),
             ("f.cnf", usage, "check - -"),
+            ("f.cnf", usage, "decide f.cnf -"),
             ("f.cnf", usage, "solve f.cnf -"),
+            ("f.cnf", (20, b"s UNSATISFIABLE\n"), "decide -"),
             ("f.cnf", usage, "trim f.cnf proof -"),
             ("f.cnf", usage, "lift --cubes - --leaf 1 f.cnf - out"),
             ("f.cnf", usage, "join --cubes f.icnf - out -"),
@@ -196,12 +198,13 @@ def standard_input(bench: Bench) -> None:
             if (found[0], found[1][:len(wanted[1])]) != wanted:
                 print("DIFFERS: %s: %r, and not %r" % (line, found, wanted))
                 sys.exit(1)
-    with open(os.path.join(bench.folder, "out"), "wb") as out:
-        subprocess.run([bench.program, "solve", "f.cnf", "/dev/stdout"], cwd=bench.folder,
-                       stdout=out, check=False)
-    if bench.taken("out") != b"c cannot write proof\n":
-        print("DIFFERS: a proof to the file to which is printed")
-        sys.exit(1)
+    for command in ("decide", "solve"):
+        with open(os.path.join(bench.folder, "out"), "wb") as out:
+            subprocess.run([bench.program, command, "f.cnf", "/dev/stdout"], cwd=bench.folder,
+                           stdout=out, check=False)
+        if bench.taken("out") != b"c cannot write proof\n":
+            print("DIFFERS: a proof of %s to the file to which is printed" % command)
+            sys.exit(1)
     print("ok: -", flush=True)
 
 
@@ -235,7 +238,7 @@ def main() -> None:
             bench.write("f.cnf", formula.encode())
             bench.write("f.icnf", ("p inccnf\n" + formula.split("\n", 1)[1] + CUBES).encode())
             if not text:
-                bench.run("solve", "f.cnf", "proof")
+                bench.run("decide", "f.cnf", "proof")
                 text = (bench.taken("proof") or b"").decode()
             proof = binary(text)
             bench.same(name, proof)

@@ -5,7 +5,7 @@ proof.
     tools/lift_corpus.py [--solver NAME] [--lrat-check PATH] [--jobs N] [--depths D,E..]
         PATH-OF-satcluster FORMULA..
 
-NAME is `cadical` (the default), `kissat` (with `drat-trim`) or `satcluster`; they are looked for on
+NAME is `cadical` (the default), `kissat` (with our `elaborate`) or `satcluster`; they are looked for on
 the path. Only formulas that it refutes in SECONDS are taken, N of them at a time. Tells a line for
 each formula and depth: leaves, bytes of the foreign proofs and of the joined one, seconds of the
 processor of the solver on the whole formula, on all leaves, of `lift` and of `check`. With PATH the
@@ -32,8 +32,8 @@ LIMIT = 600  # seconds for any other command
 # behind `>`.
 SOLVERS: Dict[str, List[str]] = {
     "cadical": ["cadical -q -n --lrat --no-binary {cnf} {lrat}"],
-    "kissat": ["kissat -q -n --no-factor --no-binary {cnf} {drat}",
-               "drat-trim {cnf} {drat} -L {lrat} -t 1000000"],
+    "kissat": ["kissat -q -n --no-factor {cnf} {drat}",
+               "{satcluster} elaborate {cnf} {drat} {lrat}"],
     "satcluster": ["{satcluster} cubes --depth 0 {cnf} > {icnf}",
                    "{satcluster} refute --cubes {icnf} --leaf 1 -q {cnf} {lrat}"],
 }

@@ -19,7 +19,9 @@ ROOT = Path(__file__).resolve().parent.parent
 SECONDS = 600  # for a block
 COMMENT = re.compile(r"[^\s#].*?\s#\s+(.+?)\s*$")
 PRINTED = re.compile(r"# ([scvf] .*)$")
-PROGRAMS = {"satcluster-solver": "satcluster-solver", "satcluster-conquer": "conquer.py"}
+PROGRAMS = {"satcluster-solver": "tools/satcluster-solver", "satcluster-conquer": "tools/conquer.py"}
+PROGRAMS.update({name: "clients/python/" + name for name in (
+    "satcluster-maxsat", "satcluster-maxsat-check", "satcluster-mus", "satcluster-backbone")})
 
 
 def lines_of(page: Path) -> Iterator[Tuple[int, str, bool]]:
@@ -148,7 +150,7 @@ def places(base: Path, program: Path) -> Tuple[Path, Dict[str, str]]:
         made.mkdir()
     (path / "satcluster").symlink_to(program.resolve())
     for name, tool in PROGRAMS.items():
-        (path / name).symlink_to(ROOT / "tools" / tool)
+        (path / name).symlink_to(ROOT / tool)
     for name in ("examples", "tools"):
         (folder / name).symlink_to(ROOT / name)
     return folder, dict(os.environ, TMPDIR=str(room), PATH="%s:%s" % (path, os.environ["PATH"]))

@@ -7,6 +7,8 @@
 layers.svg    the crates, as crates.txt has them: each stands on those that its lines lead down to
 run.svg       the frames of a run of one worker and one leaf
 tree.svg      a splitting tree of two leaves, their logs, and the proof that joins them
+
+timeline.svg beside them was drawn by `conquer.py`, of a run.
 """
 import sys
 from html import escape
@@ -27,19 +29,19 @@ KINDS: Dict[str, Tuple[str, List[str]]] = {
         "option_table", "command_line", "reports", "explanations", "node_main", "commands",
         "satcluster"]),
     "leaves as files": ("#fbe5d0", [
-        "leaves", "text_or_binary", "cubes_to_tree", "log_join", "receipts", "cover_laws", "proof_lift",
-        "lidrup", "sessions", "answers"]),
+        "leaves", "text_or_binary", "cubes_to_tree", "log_join", "receipts", "cover_laws",
+        "shared_logs", "proof_lift", "lidrup", "sessions", "answers"]),
     "machines and runs": ("#d8eaf7", [
         "runs", "event_loop", "links", "connections", "cluster", "honest_cluster", "worker_core",
-        "coordinator_core", "evidence", "frames"]),
+        "coordinator_core", "evidence", "frames", "hmac"]),
     "search": ("#dff0d8", [
-        "cube_solve", "incremental", "conflict_analysis", "decide_heap", "watches", "clause_arena",
-        "proof_trim"]),
+        "formula_search", "cube_solve", "incremental", "conflict_analysis", "decide_heap",
+        "watches", "clause_arena", "proof_trim"]),
     "splitting and joining": ("#f7f0c8", [
         "cube_split", "look_ahead", "icnf", "proof_join", "lrat_trim"]),
     "formulas and proofs": ("#f6d9dc", [
-        "lrat_check", "binary_check", "packed_text", "lrat_text", "lrat_binary", "lrat_forms",
-        "dimacs"]),
+        "lrat_check", "proof_check", "packed_text", "lrat_text", "lrat_binary", "lrat_forms",
+        "drat_elaborate", "drat_forms", "dimacs"]),
 }
 
 

@@ -34,6 +34,7 @@ from typing import Dict, Iterator, List, NamedTuple, Set, Tuple
 ROOT = Path(__file__).resolve().parent.parent
 PARTS = ("src", "specs", "proofs")
 MOST = 3  # jobs of one check; more gain nothing
+LOOK = 10  # seconds between two looks at all sources, as long as no check ends
 
 
 class Check(NamedTuple):
@@ -141,8 +142,14 @@ def end(name: str, check: Check) -> bool:
 def prove(named: List[str], jobs: int, watch: bool) -> bool:
     running: Dict[str, Check] = {}
     failed: Dict[str, str] = {}  # the digest of what was not proved
+    looked = -float(LOOK)
     while True:
-        for name in [name for name in running if running[name].process.poll() is not None]:
+        over = [name for name in running if running[name].process.poll() is not None]
+        if not over and time.monotonic() < looked + LOOK:
+            time.sleep(1)
+            continue
+        looked = time.monotonic()
+        for name in over:
             check = running.pop(name)
             if not end(name, check):
                 failed[name] = check.digest
@@ -159,7 +166,6 @@ def prove(named: List[str], jobs: int, watch: bool) -> bool:
         for place, name in enumerate(ready[:max(idle, 0)]):
             share = max(1, min(MOST, idle - (len(ready) - 1))) if place == 0 else 1
             running[name] = begin(crates, name, share)
-        time.sleep(1)
 
 
 def show(name: str, function: str) -> int:

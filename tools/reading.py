@@ -1,8 +1,9 @@
 #!/usr/bin/env python3
-"""Writes docs/dev/READING.md: what a reader has to believe, counted from public contracts down.
+"""Writes docs/dev/READING.md: what a reader has to believe, counted from public contracts down; and
+into docs/TRUST.md the definitions below `s VERIFIED`.
 
-    tools/reading.py           writes the page
-    tools/reading.py --check   fails if the page is stale
+    tools/reading.py           writes them
+    tools/reading.py --check   fails if one is stale, or if TRUST has another count of the glue
 
 Both fail if a definition stands on the wrong side: `specs` holds what contracts of public calls
 name, directly or not, and `specs/inner` what only private contracts, invariants and proofs name.
@@ -17,9 +18,14 @@ from typing import Dict, Iterator, List, Optional, Sequence, Tuple
 sys.dont_write_bytecode = True
 
 import definitions
+import glue
 from definitions import ROOT, Contract, Reach, code, contract, imports, spec_at, words
 
 PAGE = ROOT / "docs" / "dev" / "READING.md"
+TRUST = ROOT / "docs" / "TRUST.md"
+BEGIN = "<!-- tools/reading.py writes the definitions -->\n"
+END = "<!-- end of the definitions -->\n"
+COUNTS = re.compile(r"\[(\d+) definitions in\s+(\d+) lines\].*?(\d+) lines of \[satcluster/src\]", re.S)
 
 
 @dataclass(frozen=True)
@@ -41,9 +47,9 @@ CLAIMS = (
         "`s VERIFIED` is true",
         "If `check` ends with status 0, the input spells a formula that no assignment"
         " satisfies. Nothing of proofs has to be read for that.",
-        (("node_main", "ProofCheck::new", ["taken"]),
-         ("node_main", "ProofCheck::feed", ["taken"]),
-         ("node_main", "ProofCheck::finish", ["truth"])),
+        (("proof_check", "ProofCheck::new", ["taken"]),
+         ("proof_check", "ProofCheck::feed", ["taken"]),
+         ("proof_check", "ProofCheck::finish", ["truth"])),
         "HasTaken",
     ),
     Claim(
@@ -51,19 +57,29 @@ CLAIMS = (
         "The formula that reading gave, and then a proof in any pieces, are handed to a"
         " `ProofCheck`. At its end it reports status 0 exactly if the input spells a formula"
         " and the definition accepts the proof, and prints what the table of faults says.",
-        (("node_main", "ProofCheck::of", ["taken"]),
-         ("node_main", "ProofCheck::feed", ["taken"]),
-         ("node_main", "ProofCheck::finish", ["report"])),
+        (("proof_check", "ProofCheck::of", ["taken"]),
+         ("proof_check", "ProofCheck::feed", ["taken"]),
+         ("proof_check", "ProofCheck::finish", ["report"])),
         "HasTaken",
     ),
     Claim(
         "`s SATISFIABLE` and `s UNSATISFIABLE` are true",
-        "If a run of `solve`, `serve` or `work` ends with status 10, an assignment satisfies"
-        " the formula that the input spells; with status 20 none does. This holds whatever the"
-        " links bring.",
-        (("node_main", "run_solve", ["truth"]),
+        "If a run of `decide`, `solve`, `serve` or `work` ends with status 10, an assignment"
+        " satisfies the formula that the input spells; with status 20 none does. This holds"
+        " whatever the links bring.",
+        (("commands", "decide_files", ["truth"]),
+         ("node_main", "run_solve", ["truth"]),
          ("node_main", "run_serve_arrivals", ["truth"]),
          ("node_main", "run_work", ["truth"])),
+    ),
+    Claim(
+        "What `decide` tells, and what it writes",
+        "Of all bytes of the input `decide` tells the first fault, or decides the formula. It"
+        " prints an assignment that satisfies; or it has an accepted proof, which is also a log"
+        " over the formula that closes the empty cube, and has written it to the file that is"
+        " named for it; or it gives up, which it does only after as many lemmas as the limit"
+        " that was named allows.",
+        (("commands", "decide_files", ["tells", "kept", "apart", "left"]),),
     ),
     Claim(
         "What a node holds is true, and nodes agree",
@@ -229,16 +245,34 @@ def page() -> str:
     return "\n".join(out).rstrip("\n") + "\n"
 
 
+def trust() -> str:
+    """TRUST with the definitions below `s VERIFIED`."""
+    text = TRUST.read_text(encoding="utf-8")
+    found = list(believed(CLAIMS[0]).found)
+    counts = COUNTS.search(text)
+    if not counts or tuple(map(int, counts.groups())) != count(found) + (glue.count(),):
+        raise SystemExit("docs/TRUST.md has other counts than %d definitions in %d lines and %d"
+                         " lines of glue" % (count(found) + (glue.count(),)))
+    blocks = ("\n".join(spec_at(path).blocks[name])
+              for path, names in by_file(found).items() for name in names)
+    before, rest = text.split(BEGIN)
+    return before + BEGIN + "\n```text\n" + "\n\n".join(blocks) + "\n```\n\n" + END + rest.split(END)[1]
+
+
 def main() -> None:
-    text = page()
+    pages = {PAGE: page(), TRUST: trust()}
     wrong = list(definitions.misplaced())
     if wrong:
         raise SystemExit("believed, and in specs/inner, or not, and in specs:\n" + "\n".join(wrong))
+    stale = [path for path, text in pages.items()
+             if not path.exists() or path.read_text(encoding="utf-8") != text]
     if sys.argv[1:] == ["--check"]:
-        if not PAGE.exists() or PAGE.read_text(encoding="utf-8") != text:
-            raise SystemExit("docs/dev/READING.md is stale: run tools/reading.py")
+        if stale:
+            names = ", ".join(str(path.relative_to(ROOT)) for path in stale)
+            raise SystemExit("stale: %s; run tools/reading.py" % names)
         return
-    PAGE.write_text(text, encoding="utf-8")
+    for path in stale:
+        path.write_text(pages[path], encoding="utf-8")
 
 
 if __name__ == "__main__":

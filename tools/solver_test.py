@@ -73,6 +73,8 @@ class End(NamedTuple):
 class Case(unittest.TestCase):
     """A folder of its own, in which the solver runs, and whose temporary files are here too."""
 
+    command = str(SOLVER)
+
     def setUp(self) -> None:
         self.folder = Path(os.path.realpath(tempfile.mkdtemp()))
         self.addCleanup(shutil.rmtree, str(self.folder), ignore_errors=True)
@@ -100,7 +102,7 @@ class Case(unittest.TestCase):
     def start(self, *words: str, **more: Any) -> subprocess.Popen:
         more = {"stdin": subprocess.DEVNULL, "stdout": subprocess.PIPE,
                 "stderr": subprocess.PIPE, "env": self.env, **more}
-        return subprocess.Popen([str(SOLVER), *words], cwd=str(self.folder), **more)
+        return subprocess.Popen([self.command, *words], cwd=str(self.folder), **more)
 
     def run_solver(self, *words: str, given: Optional[bytes] = None, **more: Any) -> End:
         if given is not None:
@@ -266,23 +268,31 @@ class Answers(Case):
         self.soon("a proof", whole)
 
     def test_kept(self) -> None:
+        """Proofs and answers are kept whole, also of runs that print no values; each run tells how
+        they are checked."""
         formulas = ["four_clauses.cnf", "random_100_sat.cnf", "schur_3_14.cnf"]
-        for words in ("--keep kept", "--keep=kept --jobs 2"):
+        packed = ".zst" if shutil.which("zstd") else ""
+        for words in ("--keep kept", "--keep=kept --jobs 2", "--keep kept -n"):
             self.env["SATCLUSTER_WORDS"] = words
             for name in formulas:
-                self.answer(self.example(name))
+                end = self.answer(self.example(name))
+                told = [line for line in end.lines if line.startswith("c kept; it is checked by: ")]
+                self.assertEqual("s VERIFIED\n", self.shell(told[0].split(": ", 1)[1]), words)
+                self.assertEqual("-n" in words or end.status == 20,
+                                 not any(line.startswith("v ") for line in end.lines))
             self.answer("-q", given=Path(self.example("four_clauses.cnf")).read_bytes())
             self.write("bad.cnf", BAD)
             self.refuses("bad.cnf, line 2", "bad.cnf")
             there = sorted(path.name for path in (self.folder / "kept").iterdir())
-            self.assertEqual(["1.cnf", "1.lrat", "2.answer", "2.cnf", "3.cnf", "3.lrat", "4.cnf",
-                              "4.lrat"], there)
-            for number in "134":
-                self.verifies("kept/%s.cnf" % number, "kept/%s.lrat" % number)
-            model = [self.program, "model", "kept/2.cnf", "kept/2.answer"]
-            done = subprocess.run(model, cwd=str(self.folder), stdout=subprocess.PIPE)
-            self.assertEqual(b"s VERIFIED\n", done.stdout)
+            self.assertEqual(["1.cnf", "1.lrat" + packed, "2.answer", "2.cnf", "3.cnf",
+                              "3.lrat" + packed, "4.cnf", "4.lrat" + packed], there)
             shutil.rmtree(self.at("kept"))
+
+    def shell(self, line: str) -> str:
+        """What a command prints that a run has told, with the program in the place of its name."""
+        line = re.sub(r"\bsatcluster\b", self.program, line)
+        done = subprocess.run(["sh", "-c", line], cwd=str(self.folder), stdout=subprocess.PIPE)
+        return done.stdout.decode()
 
     def test_name_that_is_linked(self) -> None:
         """A client that calls `kissat` finds it by a link."""
@@ -290,6 +300,175 @@ class Answers(Case):
         words = [self.at("kissat"), "-q", self.example("four_clauses.cnf")]
         done = subprocess.run(words, env=self.env, stdout=subprocess.PIPE)
         self.assertEqual((20, b"s UNSATISFIABLE\n"), (done.returncode, done.stdout))
+
+
+class Minisat(Case):
+    """Called as `minisat` it writes MiniSat's result, and no proof, to the second file."""
+
+    def setUp(self) -> None:
+        super().setUp()
+        self.command = self.link("minisat")
+        self.sat, self.unsat = (self.example("random_100_%s.cnf" % end) for end in ("sat", "unsat"))
+        self.write("long.cnf", LONG)
+        self.write("bad.cnf", BAD)
+
+    def link(self, name: str) -> str:
+        (self.folder / name).symlink_to(SOLVER)
+        return self.at(name)
+
+    def text(self, name: str = "out") -> str:
+        return Path(self.at(name)).read_text()
+
+    def is_model(self, text: str, path: str) -> None:
+        """As MiniSat writes it: each variable of the header in turn, and 0."""
+        first, model, end = text.split("\n")
+        self.assertEqual(("SAT", ""), (first, end))
+        formula = Path(path).read_text()
+        header = [line for line in formula.split("\n") if line.startswith("p ")][0]
+        variables = [str(one) for one in range(1, int(header.split()[2]) + 1)]
+        self.assertEqual(variables + ["0"], model.replace("-", "").split(" "))
+        self.assertTrue(satisfies(formula, ["v " + model]))
+
+    def test_result(self) -> None:
+        words: Sequence[List[str]] = (*WAYS, ["-verb=0", "-no-pre", "-cpu-lim=50"], ["-n"])
+        for more in words:
+            self.decides(20, *more, self.unsat, "out")
+            self.assertEqual("UNSAT\n", self.text())
+            end = self.decides(10, *more, self.sat, "out")
+            self.assertEqual("s SATISFIABLE", end.lines[-1])  # the model is in the file alone
+            self.is_model(self.text(), self.sat)
+        self.write("f.cnf", "p cnf 4 1\n3 0\n")
+        self.decides(10, "-", "new", given=b"p cnf 4 1\n3 0\n")
+        self.is_model(self.text("new"), self.at("f.cnf"))
+        end = self.answer("-odd", self.unsat, "out")
+        self.assertEqual((20, 1, "UNSAT\n"), (end.status, len(end.errors), self.text()))
+
+    def test_names(self) -> None:
+        for name in ("minisat_static", "minisat_core", "minisat_release", "minisat2"):
+            self.command = self.link(name)
+            self.decides(20, self.unsat, name + ".out")
+            self.assertEqual("UNSAT\n", self.text(name + ".out"))
+        for name in ("kissat", "satcluster-solver", "minisatx"):
+            self.command = self.link(name)
+            self.decides(20, self.unsat, "f.lrat")
+            self.verifies(self.unsat, "f.lrat")
+
+    def test_one_file(self) -> None:
+        """Without a second file the model is printed, as under any other name."""
+        end = self.decides(10, self.sat)
+        self.assertTrue(satisfies(Path(self.sat).read_text(), end.lines))
+
+    @unittest.skipUnless(shutil.which("minisat"), "minisat is not installed")
+    def test_beside_minisat(self) -> None:
+        for name in ("four_clauses", "pigeons_6", "random_100_sat", "schur_3_13", "sudoku_2"):
+            formula = self.example(name + ".cnf")
+            theirs = subprocess.run(["minisat", "-verb=0", formula, self.at("theirs")],
+                                    stdout=subprocess.DEVNULL, stderr=subprocess.DEVNULL)
+            self.assertEqual(theirs.returncode, self.answer("-verb=0", formula, "out").status)
+            if theirs.returncode == 10:
+                self.is_model(self.text("theirs"), formula)
+                self.is_model(self.text(), formula)
+            else:
+                self.assertEqual(self.text("theirs"), self.text())
+        theirs = subprocess.run(["minisat", "-cpu-lim=1", self.at("long.cnf"), self.at("theirs")],
+                                stdout=subprocess.DEVNULL, stderr=subprocess.DEVNULL)
+        self.assertEqual(theirs.returncode, self.answer("-cpu-lim=1", "long.cnf", "out").status)
+        self.assertEqual(self.text("theirs"), self.text())
+
+    def test_no_answer(self) -> None:
+        """An older result is not left there."""
+        for line, why in (("--limit 1 long.cnf", "without a verdict"), ("bad.cnf", "fault 4"),
+                          ("-t 0.5 long.cnf", "time is up"), ("none.cnf", "no file"),
+                          ("--program none bad.cnf", "no program")):
+            self.write("out", "UNSAT\n")
+            words = [*line.split(), "out"]
+            end = self.answer(*words)
+            self.assertEqual((0, "INDET\n"), (end.status, self.text()), words)
+            self.assertIn(why, "\n".join(end.lines))
+        self.write("out", "SAT\n1 0\n")
+        process = self.start("long.cnf", "out")
+        self.soon("a search", lambda: len(self.running() - {process.pid}) >= 1)
+        process.terminate()
+        process.communicate(timeout=SOON)
+        self.assertEqual((0, "INDET\n"), (process.returncode, self.text()))
+
+    def test_file_that_stays(self) -> None:
+        """What is no result is not lost by a run without an answer, and a formula by none."""
+        self.write("out", "notes\n")
+        self.refuses("fault 4", "bad.cnf", "out")
+        self.assertEqual("notes\n", self.text())
+        self.refuses("formula itself", "bad.cnf", "bad.cnf")
+        self.refuses("not written over", "-odd", self.unsat, "bad.cnf")
+        self.assertEqual(BAD, self.text("bad.cnf"))
+        self.refuses("no folder .* for the result", self.unsat, "none/out")
+        self.refuses("is a folder: name a file for the result", self.unsat, "tmp")
+        self.refuses("result cannot go to standard output", self.unsat, "-")
+
+    def test_full_disk(self) -> None:
+        """The file is whole or as it was, and what could not be written is no answer."""
+        def few_bytes() -> None:
+            resource.setrlimit(resource.RLIMIT_FSIZE, (8, 8))
+
+        import resource
+        for stood in ("UNSAT\n", "notes\n", ""):
+            self.write("out", stood)
+            end = self.answer(self.sat, "out", preexec_fn=few_bytes)
+            self.assertEqual((0, "s UNKNOWN"), (end.status, end.lines[-1]))
+            self.assertIn("c out cannot be written: File too large.", end.lines)
+            self.assertEqual(stood if stood == "notes\n" else "INDET\n", self.text())
+        self.assertFalse(list(self.folder.glob("out.part*")))
+
+    def test_parts(self) -> None:
+        for number in range(99):
+            self.write("out.part%d" % number, "of a run that was killed")
+        self.decides(20, self.unsat, "out")
+        self.assertEqual("UNSAT\n", self.text())
+        self.write("out.part99", "of another one")
+        self.refuses("out cannot be written: a hundred parts", self.unsat, "out")
+        self.assertEqual("UNSAT\n", self.text())
+
+    def test_place(self) -> None:
+        """A link stays one, permissions stay, and a caller that has made an empty file and has it
+        open reads the result there."""
+        self.write("there", "UNSAT\n")
+        os.chmod(self.at("there"), 0o640)
+        (self.folder / "out").symlink_to("there")
+        self.decides(10, self.sat, "out")
+        self.is_model(self.text("there"), self.sat)
+        self.assertEqual(0o640, os.stat(self.at("there")).st_mode & 0o777)
+        self.assertTrue(os.path.islink(self.at("out")))
+        with tempfile.NamedTemporaryFile("r", dir=str(self.folder)) as made:
+            self.decides(20, self.unsat, made.name)
+            self.assertEqual("UNSAT\n", made.read())
+
+    def test_devices(self) -> None:
+        self.decides(20, self.unsat, "/dev/null")
+        end = self.run_solver("-q", self.unsat, "/dev/stdout")
+        self.assertEqual((20, ["UNSAT", "s UNSATISFIABLE"]), (end.status, end.lines))
+        with open(self.at("printed"), "wb") as file:  # a regular file is not begun anew
+            process = self.start("-q", self.sat, "/dev/stdout", stdout=file, stderr=None)
+            self.assertEqual(10, process.wait(timeout=SECONDS))
+        text, line = self.text("printed").rsplit("s SATISFIABLE", 1)
+        self.assertEqual("\n", line)
+        self.is_model(text, self.sat)
+        os.mkfifo(self.at("pipe"))
+        process = self.start("-q", self.unsat, "pipe")
+        self.assertEqual("UNSAT\n", self.text("pipe"))
+        self.assertEqual((b"s UNSATISFIABLE\n", b""), process.communicate(timeout=SOON))
+        process = self.start("-q", self.unsat, "pipe")  # which nobody reads
+        time.sleep(1)
+        process.terminate()
+        told = b"c ended by SIGTERM\nc pipe cannot be written: No such device or address.\n"
+        self.assertEqual((b"s UNKNOWN\n", told), process.communicate(timeout=SOON))
+
+    def test_kept(self) -> None:
+        self.env["SATCLUSTER_WORDS"] = "--keep kept"
+        self.decides(20, self.unsat, "out")
+        self.decides(10, self.sat, "model")
+        there = sorted(path.name[:6] for path in (self.folder / "kept").iterdir())
+        self.assertEqual(["1.cnf", "1.lrat", "2.answ", "2.cnf"], there)
+        self.assertEqual("UNSAT\n", self.text())
+        self.is_model(self.text("model"), self.sat)
 
 
 class Refusals(Case):
@@ -650,6 +829,36 @@ class Clients(Case):
             told = self.printed("SATISFIABLE", *words, script % 0)
             self.assertIn("SAT proof finished - model found: FAIL!", told)
             self.assertNotIn("SAT proof finished", self.refused(*words, script % 1))
+
+    def test_yosys_session(self) -> None:
+        """One session has all queries of a solver, and without an answer nothing is proved."""
+        yosys, plugin = self.wanted("yosys"), client("satcluster_session.so")
+        if plugin is None:
+            self.skipTest("no plugin satcluster_session.so: tools/clients.sh makes it")
+        self.env.update(SATCLUSTER_EVENTS=self.at("run-"), SATCLUSTER_PROOF=self.at("run-"))
+        words = [yosys, "-m", plugin, "-p", "read_verilog f.v; proc; sat -set-init-zero "
+                 "-select-solver satcluster-session -tempinduct -prove ok 1"]
+        module = ("module f(input clk, in, output ok); reg [5:0] a, b;\n"
+                  "always @(posedge clk) begin a <= {a, in}; b <= {b, in}; end\n"
+                  "assign ok = %s; endmodule\n")
+        self.write("f.v", module % "a[5] == b[5]")
+        self.assertIn("Induction step proven: SUCCESS!", self.printed("", *words))
+        counts = [self.verified(events) for events in sorted(self.folder.glob("run-*.icnf"))]
+        self.assertEqual([6, 6], counts)
+        self.write("f.v", module % "!(a[5] && b[4])")
+        self.assertIn("model found for base case: FAIL!", self.printed("", *words))
+        self.env["SATCLUSTER"] = self.script("refuses", "exit 1\n")
+        told = self.printed("", *words)
+        self.assertIn("satcluster has given no answer", told)
+        self.assertNotIn("proof finished", told)
+
+    def verified(self, events: Path) -> int:
+        """How many queries a session has, all of which are proved."""
+        words = [self.env["SATCLUSTER"], "check", "--session", str(events),
+                 str(events.with_suffix(".lidrup"))]
+        told = subprocess.run(words, stdout=subprocess.PIPE, encoding="ascii").stdout
+        self.assertEqual("s VERIFIED", told.split("\n")[0])
+        return int(told.split()[3])
 
     def test_abc(self) -> None:
         abc = self.wanted("yosys-abc" if client("yosys-abc") else "abc")

@@ -1,15 +1,15 @@
 /* IPASIR over sessions of the proved program `satcluster`.
  *
- * A solver is a process, `satcluster session --limit 1000 - [PROOF]`, at the other end of a socket:
- * clauses and queries go in as lines, and answers come out. Nothing is decided here. If the program
- * cannot be started, dies, or prints what is no answer, the reason goes to standard error, once,
- * and the solver answers 0 to each query from then on.
+ * A solver is a process, `satcluster session --large --limit 1000 - [PROOF]`, at the other end of a
+ * socket: clauses and queries go in as lines, and answers come out. Nothing is decided here. If the
+ * program cannot be started, dies, or prints what is no answer, the reason goes to standard error,
+ * once, and the solver answers 0 to each query from then on.
  *
  * SATCLUSTER of the environment names the program; else it is `satcluster` on PATH.
  * SATCLUSTER_EVENTS and SATCLUSTER_PROOF are fronts of names, and name folders if they end with /:
  * solver N of process P writes what it sends to the former with "P-N.icnf" behind it, and has the
  * program write the proof of all answers to the latter with "P-N.lidrup" behind it.
- * `satcluster check --session` checks both.
+ * `satcluster check --session --large` checks both.
  *
  * One thread at a time may use a solver; several threads may use several solvers.
  */
@@ -125,7 +125,7 @@ static void start(struct solver *s, const char *proof)
 {
     const char *named = getenv("SATCLUSTER");
     const char *program = named && *named ? named : "satcluster";
-    char *words[] = { (char *)program, "session", "--limit", LIMIT, "-",
+    char *words[] = { (char *)program, "session", "--large", "--limit", LIMIT, "-",
                       *proof ? (char *)proof : NULL, NULL };
     posix_spawn_file_actions_t actions;
     int ends[2], error;

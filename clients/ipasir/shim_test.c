@@ -9,6 +9,7 @@
 #include <string.h>
 
 #define QUERIES 10000
+#define LARGE 1500000       /* a variable above the limit that the program has without --large */
 
 static int failures;
 
@@ -63,6 +64,7 @@ static void test_terminate(void)
     test(ipasir_solve(solver) == 0, "a query is ended by the callback");
     test(calls == 0, "the callback is called until it says so");
     test(ipasir_val(solver, 1) == 0 && !ipasir_failed(solver, -free), "an end is no answer");
+    calls = 1000;
     test(ipasir_solve(solver) == 10, "the assumption went with its query");
     test(ipasir_val(solver, free) == free, "the model");
     test(learnt == 0, "no clause is told");
@@ -106,6 +108,22 @@ static void test_edges(void)
     ipasir_release(solver);
 }
 
+/* A variable as large formulas have it: in a model, in a core, and beside small ones. */
+static void test_large(void)
+{
+    void *solver = ipasir_init();
+    add(solver, (int[]){ -1, LARGE, 0 });
+    ipasir_assume(solver, 1);
+    test(ipasir_solve(solver) == 10, "a large variable");
+    test(ipasir_val(solver, LARGE) == LARGE && ipasir_val(solver, 1) == 1, "its value");
+    ipasir_assume(solver, 1);
+    ipasir_assume(solver, 2);
+    ipasir_assume(solver, -LARGE);
+    test(ipasir_solve(solver) == 20, "its negation");
+    test(ipasir_failed(solver, -LARGE) && !ipasir_failed(solver, 2), "the core of that");
+    ipasir_release(solver);
+}
+
 static void test_many_queries(void)
 {
     void *solver = ipasir_init();
@@ -136,7 +154,7 @@ static void test_no_answer(void)
     setenv("SATCLUSTER", kept, 1);
     free(kept);
     void *beyond = ipasir_init(), *open = ipasir_init();
-    add(beyond, (int[]){ 1000001, 0 });
+    add(beyond, (int[]){ 100000000, 0 });
     test(ipasir_solve(beyond) == 0, "a variable beyond the limit");
     ipasir_release(beyond);
     ipasir_add(open, 1);
@@ -163,6 +181,7 @@ int main(int argc, char **argv)
     test_terminate();
     test_long_query();
     test_edges();
+    test_large();
     test_many_queries();
     unsetenv("SATCLUSTER_EVENTS");      /* what follows has sessions that are cut */
     unsetenv("SATCLUSTER_PROOF");

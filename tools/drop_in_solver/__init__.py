@@ -6,5 +6,6 @@
     kept_files  the folder of --keep
     processes   commands that end with this process, and this process with its parent
     output      what is printed
+    result_file what MiniSat writes in the place of a proof
     answer      runs the program, or `conquer.py`, and prints its answer
 """

@@ -16,6 +16,7 @@ from typing import Callable, Dict, List, Optional
 from drop_in_solver.kept_files import KeptFiles
 from drop_in_solver.output import NoReader, Output, can_print, reader_is_gone
 from drop_in_solver.processes import Ended, Sweeper, end, end_after, kill_with_parts, start
+from drop_in_solver.result_file import OutputWithResult, refusal
 from drop_in_solver.sources import Refused, Source, source_of, spooled
 from drop_in_solver.words import Asked, read, words_of_environment
 from explanations import looks, words
@@ -91,8 +92,8 @@ class Solver:
         return path
 
     def decide(self) -> None:
+        self.test_files()
         program = self.program()
-        self.test_proof()
         end_after(self.asked.seconds)
         run = self.alone if self.asked.jobs is None else self.by_jobs
         if self.asked.keep is None:
@@ -109,27 +110,25 @@ class Solver:
         source = source_of(self.asked.formula)
         return self.keep.take(source) if self.keep else source
 
-    def test_proof(self) -> None:
-        """Tells at once, and not after hours, that the proof cannot be written."""
+    def test_files(self) -> None:
+        """Tells at once, and not after hours, that the proof or the result cannot be written."""
         asked = self.asked
-        if asked.proof == "-":
-            raise Refused("The proof cannot go to standard output: name a file.")
-        why = asked.proof and words.unwritable(asked.proof, asked.formula)
+        why = asked.proof and refusal(asked.proof, asked.formula, "proof")
         if why:
             raise Refused(why)
-        # A value that was not known as one, of a word that was not known, makes FILE the proof.
-        if asked.proof and looks.is_formula(looks.head_of(asked.proof)):
-            raise Refused("%s is a formula: the proof is not written over it." % asked.proof)
+        self.output.test()
 
     def alone(self, program: str) -> None:
-        """One process. Not split: what is learnt under one cube would be lost under the next."""
+        """One process. Only with a depth is the formula split: what is learnt under one cube is lost
+        under the next."""
         source = self.source()
         limits = source.limits()
         if limits:
             self.output.comment([looks.LARGE])
-        command = [program, "solve", *limits, "--explain", "--depth", str(self.asked.depth or 0)]
-        process = start(command + self.more() + [source.path] + self.proof(), stdin=source.pipe,
-                        stdout=subprocess.PIPE, stderr=subprocess.PIPE)
+        depth = self.asked.depth
+        command = [program, *(["decide"] if depth is None else ["solve", "--depth", str(depth)])]
+        command += [*limits, "--explain", *self.more(), source.path, *self.proof()]
+        process = start(command, stdin=source.pipe, stdout=subprocess.PIPE, stderr=subprocess.PIPE)
         source.close()
         lines = Lines(self.output)
         try:
@@ -174,7 +173,14 @@ class Solver:
     def more(self) -> List[str]:
         asked = self.asked
         limit = ["--limit", str(asked.limit)] if asked.limit is not None else []
-        return limit + ([] if asked.values else ["-n"])
+        binary = ["--binary"] if self.keep and not asked.proof else []
+        return limit + binary + ([] if self.has_values() else ["-n"])
+
+    def has_values(self) -> bool:
+        """Whether the program prints an assignment: what is kept has it, and MiniSat's result,
+        whatever is printed."""
+        asked = self.asked
+        return asked.values or self.keep is not None or asked.result is not None
 
     def proof(self) -> List[str]:
         proof = self.asked.proof or (self.keep.proof() if self.keep else None)
@@ -184,7 +190,7 @@ class Solver:
              explain: Callable[[str], List[str]]) -> None:
         """Prints the answer, or why there is none."""
         status = process.returncode
-        answer = answer_in(status, lines, self.asked.values)
+        answer = answer_in(status, lines, self.has_values())
         if answer is None:
             last = lines.comments[-1:]
             told = last if self.asked.quiet else []  # else it is printed already
@@ -193,11 +199,23 @@ class Solver:
         source.test()
         end_after(None)
         self.has_decided = status != 0
-        if status == 10 and self.keep:
-            self.keep.answer(answer)
+        if self.keep and self.has_decided:
+            self.tell_kept(self.keep, answer, status)
         if status == 0:
             self.output.comment(["the run ended without a verdict"])
+        if not self.asked.values and self.asked.result is None:
+            answer = answer.split(b"\n", 1)[0] + b"\n"
         self.output.answer(answer, status)
+
+    def tell_kept(self, keep: KeptFiles, answer: bytes, status: int) -> None:
+        """Keeps the answer or packs the proof, and tells how that is checked."""
+        if status == 10:
+            keep.answer(answer)
+        elif self.asked.proof:
+            return
+        else:
+            keep.pack()
+        self.output.comment(["kept; it is checked by: " + keep.how_to_check(status)])
 
 
 def why_not(status: int, lines: Lines, reasons: List[str]) -> List[str]:
@@ -237,15 +255,20 @@ def told_in(path: str, shown: Dict[str, str]) -> List[str]:
 HELP = """satcluster-solver [words] [FILE [PROOF]]
 Decides a DIMACS formula, standard input if FILE is left out or is -, packed or not.
 PROOF is an LRAT proof as text. Answers: s SATISFIABLE (10), s UNSATISFIABLE (20), s UNKNOWN (0).
+Called as minisat, by a link, it writes MiniSat's result in the place of PROOF.
 -q no c lines; -n no v lines; -t N or --time=N ends it after N seconds; --jobs N on N cores;
---depth D, --limit L as those of satcluster solve; --program PATH the proved program.
---keep FOLDER keeps each formula that was decided, N.cnf, and its N.lrat or N.answer.
+--limit L ends it after L lemmas; --depth D splits; --program PATH the proved program.
+--keep FOLDER keeps each formula that was decided, N.cnf, and its N.lrat (binary; .zst if zstd is
+there) or N.answer, and tells how to check them.
 Words of CaDiCaL, Kissat and MiniSat are taken or passed over; docs/CLIENTS.md tells more."""
 
 
 def main(line: List[str]) -> int:
-    asked = read(words_of_environment() + line)
+    """line: the name by which this program was called, and its words."""
+    asked = read(words_of_environment() + line[1:], line[0])
     output = Output(asked.quiet)
+    if asked.result is not None:
+        output = OutputWithResult(asked.quiet, asked.result, asked.formula)
     try:
         try:
             attempt(asked, output)
@@ -271,6 +294,6 @@ def tell_end(why: str, output: Output) -> None:
     """The last line of a run that is ended, if there is none yet, and if it can be printed."""
     try:
         if not output.has_answered and can_print():
-            output.unknown([why])
+            output.unknown([why], waits=False)
     except NoReader:
         pass

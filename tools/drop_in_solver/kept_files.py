@@ -1,6 +1,8 @@
 """The folder of --keep: each formula that was decided, with its proof or its answer."""
 import itertools
 import os
+import shutil
+import subprocess
 from typing import Iterator
 
 from drop_in_solver.sources import Source, spooled
@@ -8,7 +10,8 @@ from drop_in_solver.sources import Source, spooled
 
 class KeptFiles:
     """The files N.cnf, and N.lrat or N.answer, in a folder; N is the next number that is free. The
-    program reads N.cnf, so that the proof is one of that file."""
+    program reads N.cnf, so that the proof is one of that file. The proof is binary, and packed as
+    N.lrat.zst where zstd is installed."""
 
     def __init__(self, folder: str) -> None:
         os.makedirs(folder, exist_ok=True)
@@ -27,6 +30,21 @@ class KeptFiles:
     def answer(self, data: bytes) -> None:
         with open(self.stem + ".answer", "wb") as file:
             file.write(data)
+
+    def pack(self) -> None:
+        """Packs the proof, if it is there. Whatever fails, it stays as it is."""
+        if shutil.which("zstd") and os.path.isfile(self.proof()):
+            subprocess.run(["zstd", "-q", "--rm", self.proof()], stdin=subprocess.DEVNULL,
+                           stdout=subprocess.DEVNULL, stderr=subprocess.DEVNULL, check=False)
+
+    def how_to_check(self, status: int) -> str:
+        """The command that checks what was kept."""
+        formula, proof = self.stem + ".cnf", self.proof()
+        if status == 10:
+            return "satcluster model %s %s.answer" % (formula, self.stem)
+        if os.path.exists(proof + ".zst"):
+            return "zstd -dcq %s.zst | satcluster check %s -" % (proof, formula)
+        return "satcluster check %s %s" % (formula, proof)
 
     def drop(self) -> None:
         """Removes the formula: nothing was decided."""

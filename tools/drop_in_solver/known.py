@@ -50,6 +50,9 @@ MINISAT = frozenset("""
 asymm ccmin-mode cl-lim cla-decay elim gc-frac grow luby mem-lim phase-saving pre rcheck rfirst rinc
 rnd-freq rnd-init rnd-seed simp-gc-frac strict sub-lim var-decay verb
 """.split())
+MINISAT_PROGRAMS = frozenset("""
+minisat minisat2 minisat_core minisat_release minisat_simp minisat_static
+""".split())
 PLAIN = frozenset("""
 -f -l -s -v --banner --basic --color --colors --default --force --log --no-color --no-colors
 --partial --plain --relaxed --sat --statistics --stats --strict --unsat --verbose

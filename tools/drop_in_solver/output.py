@@ -32,6 +32,9 @@ class Output:
     def __init__(self, quiet: bool) -> None:
         self.quiet, self.has_answered, self.status = quiet, False, 0
 
+    def test(self) -> None:
+        """Raises Refused if an answer could not be written."""
+
     def remark(self, text: str) -> None:
         self.error(["satcluster-solver: " + text])
 
@@ -57,7 +60,8 @@ class Output:
         self.put(data)
         self.status = status
 
-    def unknown(self, reasons: List[str]) -> None:
+    def unknown(self, reasons: List[str], waits: bool = True) -> None:
+        """waits: whether a file may be waited for until it has a reader."""
         self.reasons(reasons)
         self.has_answered = True
         self.put(b"s UNKNOWN\n")

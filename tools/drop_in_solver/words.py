@@ -5,7 +5,7 @@ import shlex
 from dataclasses import dataclass, field
 from typing import Callable, Dict, List, Optional
 
-from drop_in_solver.known import is_known
+from drop_in_solver.known import MINISAT_PROGRAMS, is_known
 
 MOST = 1000000000
 VARIABLE = "SATCLUSTER_WORDS"  # of the environment, for clients that give a file and nothing else
@@ -15,6 +15,7 @@ VARIABLE = "SATCLUSTER_WORDS"  # of the environment, for clients that give a fil
 class Asked:
     formula: str = "-"
     proof: Optional[str] = None
+    result: Optional[str] = None  # MiniSat's file, in the place of the proof
     program: Optional[str] = None
     keep: Optional[str] = None
     jobs: Optional[int] = None
@@ -76,8 +77,9 @@ LIMITS = {
 OFF = ("0", "false", "no")
 
 
-def read(words: List[str]) -> Asked:
-    """Reads a command line. A word that is not known is ignored, with a remark."""
+def read(words: List[str], command: str = "") -> Asked:
+    """Reads a command line. A word that is not known is ignored, with a remark. `command` is the
+    name by which this program was called."""
     asked, files, formats, rest = Asked(), [], [], list(words)
     while rest:
         word = rest.pop(0)
@@ -101,7 +103,7 @@ def read(words: List[str]) -> Asked:
             asked.remarks.append("%s is passed over: %s" % (word, LIMITS[name]))
         elif not is_known(word):
             asked.remarks.append("%s is passed over: no such word is known" % word)
-    place(asked, files)
+    place(asked, files, os.path.basename(command) in MINISAT_PROGRAMS)
     if asked.proof:
         told = [PROOF_WORDS.get(name) for name in formats]
         asked.comments += [comment for comment in told if comment]
@@ -125,8 +127,9 @@ def take(asked: Asked, name: str, value: str) -> None:
         setattr(asked, what, found)
 
 
-def place(asked: Asked, files: List[str]) -> None:
+def place(asked: Asked, files: List[str], is_minisat: bool) -> None:
     asked.formula = files[0] if files else "-"
-    asked.proof = files[1] if len(files) > 1 else None
+    if len(files) > 1:
+        setattr(asked, "result" if is_minisat else "proof", files[1])
     for more in files[2:]:
-        asked.remarks.append("%s is passed over: FILE and PROOF are named already" % more)
+        asked.remarks.append("%s is passed over: two files are named already" % more)

@@ -101,6 +101,16 @@ TABLES = (
             13: "5 2 0 1 2 0\n",
         }),
     Table(
+        "drat",
+        "A DRAT proof, printed as `c step K fault N` by `elaborate`, `check --drat` and `lift --drat`.",
+        {
+            1: "2 0\nx 0\n",
+            2: "2000001 0\n",
+            3: "2 0\n-1",
+            6: "3 0\n0\n",
+            7: "3 1 2 0\n",
+        }),
+    Table(
         "cubes",
         "A splitting tree as iCNF, or a list of cubes, printed as `c cubes line L fault N` by"
         " commands with `--cubes` or `--complete`.",

@@ -48,16 +48,17 @@ def unreadable(path: str) -> str:
     return "%s cannot be read to its end." % path
 
 
-def unwritable(path: str, source: Optional[str] = None) -> Optional[str]:
-    """Why a proof cannot be written there; None if nothing is known against it."""
+def unwritable(path: str, source: Optional[str] = None, what: str = "proof") -> Optional[str]:
+    """Why a file cannot be written; None if nothing is known against it. what: what goes there."""
     place = os.path.realpath(path)
     above = os.path.dirname(place)
     if not os.path.isdir(above):
-        return "There is no folder %s for the proof: `mkdir -p %s`." % (above, shlex.quote(above))
+        make = "`mkdir -p %s`" % shlex.quote(above)
+        return "There is no folder %s for the %s: %s." % (above, what, make)
     if os.path.isdir(place):
-        return "%s is a folder: name a file for the proof." % path
+        return "%s is a folder: name a file for the %s." % (path, what)
     if source and os.path.exists(place) and os.path.exists(source):
         if os.path.samefile(place, source):
-            return "%s is the formula itself: name another file for the proof." % path
+            return "%s is the formula itself: name another file for the %s." % (path, what)
     right = os.access(place if os.path.exists(place) else above, os.W_OK)
     return None if right else "%s cannot be written: Permission denied." % path

@@ -34,5 +34,5 @@ def to_cut(run: Run, jobs: List[Job]) -> Optional[Job]:
 
 def patience(run: Run, leaf: Leaf) -> float:
     """For how many seconds a job runs before its leaf is cut, or its block is taken apart."""
-    seconds = MEANS * run.mean() * len(leaf.cubes)
+    seconds = MEANS * run.times.mean() * len(leaf.cubes)
     return seconds if leaf.behind else max(SECONDS, seconds)

@@ -19,12 +19,15 @@ from dataclasses import astuple, dataclass
 from pathlib import Path
 from typing import Dict, List, Optional, Sequence, Set, Tuple, Type
 
+from leaf_jobs import endings
 from leaf_jobs.cuts import MEANS, to_cut
+from leaf_jobs.endings import Stopped
 from leaf_jobs.figures import megabytes, spent, told
 from leaf_jobs.files import Fault, Folder, name_of
-from leaf_jobs.leaf import CLOSED, ENDED, FAILED, Job, Leaf, Plan, Records
+from leaf_jobs.leaf import CLOSED, ENDED, FAILED, Job, Leaf, Plan, Records, Turn
 from leaf_jobs.processes import (Bell, Command, Process, Word, die_with, kill, opened, output_of,
                                  start)
+from leaf_jobs.progress import Now
 from leaf_jobs.race import Race
 from leaf_jobs.run import Run
 from leaf_jobs.screen import Screen
@@ -70,13 +73,13 @@ class Engine:
 
 
 SOON = 0.2  # seconds after which leaves to be cut are looked for, if a core is idle
-LONG = 60  # seconds that a block may take, by the mean of a leaf: if it is killed all of it is lost
+LONG = 20  # seconds that a block may take, by the mean of a leaf: if it is killed all of it is lost
 
 
-def size_of_block(most: int, waiting: int, jobs: int, mean: float) -> int:
+def size_of_block(most: int, waiting: int, jobs: int, mean: float, seconds: float = LONG) -> int:
     """How many of the waiting leaves the next job takes: an equal share of them, so that blocks get
-    smaller towards the end, and the last job is short."""
-    return max(1, min(most, waiting // jobs, int(LONG / max(mean, 0.001))))
+    smaller towards the end, and the last job is short; and no more than end in so many seconds."""
+    return max(1, min(most, waiting // jobs, int(seconds / max(mean, 0.001))))
 
 
 class Local(Engine):
@@ -90,12 +93,14 @@ class Local(Engine):
             while (run.waits() or jobs or race) and not run.over():
                 while run.waits() and len(jobs) + bool(race) < self.jobs:
                     leaf = run.take(self.size(run, begun))
-                    jobs.append(Job(self.folder, self.plan, leaf, mark))
+                    with endings.whole():  # so that no job runs that is not listed
+                        jobs.append(Job(self.folder, self.plan, leaf, mark))
                     begun += 1
                 if self.cuts and self.cut(run, jobs, race):
                     continue
                 pause = SOON if len(jobs) + bool(race) < self.jobs else 1.0
-                self.bell.wait(min([pause] + [job.end - time.monotonic() for job in jobs]))
+                pipes = [pipe for job in jobs for pipe in job.pipes()]
+                self.bell.wait(min([pause] + [job.end - time.monotonic() for job in jobs]), pipes)
                 self.gather(run, jobs)
                 if race and race.ended(run):
                     race = None
@@ -103,7 +108,10 @@ class Local(Engine):
                 if race and race.is_lost(run, jobs, self.jobs):
                     self.end_race(run, race)
                     race = None
-                run.tick(sum(len(job.leaf.cubes) for job in jobs), race is not None)
+                run.tick(now(jobs, race, self.jobs))
+        except Stopped:
+            self.keep(run, jobs)
+            raise
         finally:
             for job in jobs + ([race.job] if race else []):
                 run.let_go(job.leaf)
@@ -114,7 +122,19 @@ class Local(Engine):
         their own: in one block they would be the longest job by far."""
         if begun < self.jobs:
             return 1
-        return size_of_block(self.block, len(run.queue), self.jobs, run.mean())
+        seconds = min(LONG, endings.left())
+        return size_of_block(self.block, len(run.queue), self.jobs, run.times.lately(), seconds)
+
+    def keep(self, run: Run, jobs: List[Job]) -> None:
+        """Ends all searches, and gives jobs some seconds to keep what was found."""
+        end = time.monotonic() + endings.GRACE
+        for job in jobs:
+            job.end_search()
+        while time.monotonic() < end and not all([job.ended() for job in jobs]):
+            self.bell.wait(0.1)
+        for job in [job for job in jobs if job.result]:
+            jobs.remove(job)
+            run.kept(job.leaf, job.result.outcome if job.result else ENDED)
 
     def cut(self, run: Run, jobs: List[Job], race: Optional[Race]) -> bool:
         """Cuts the longest leaf, or takes a block apart, if a core is idle. Answers whether leaves
@@ -122,22 +142,28 @@ class Local(Engine):
         job = None if len(jobs) + bool(race) >= self.jobs else to_cut(run, jobs)
         if job is None:
             return False
-        run.cut(job.leaf)
+        run.cut(job.leaf, len(job.turns()))
         return run.waits()
 
     def gather(self, run: Run, jobs: List[Job]) -> None:
         for job in [job for job in jobs if job.ended()]:
             jobs.remove(job)
             assert job.result is not None  # it has ended by itself
-            run.took(job.leaf, time.monotonic() - job.began, job.result.outcome)
+            run.took(job.leaf, time.monotonic() - job.began, job.result.outcome,
+                     times_of(job.begin, job.result.turns))
             run.ended(job.leaf, job.result.outcome, job.result.note)
 
     def end_needless(self, run: Run, jobs: List[Job]) -> None:
-        """Ends jobs of leaves that others have closed meanwhile."""
-        for job in [job for job in jobs if all(map(run.is_settled, job.leaf.cubes))]:
-            jobs.remove(job)
-            run.let_go(job.leaf)
-            job.stop()
+        """Ends jobs of leaves that others have closed meanwhile. A block keeps what it has closed
+        before."""
+        for job in list(jobs):
+            cubes, searched = job.leaf.cubes, len(job.turns())
+            if all(map(run.is_settled, cubes)):
+                jobs.remove(job)
+                run.let_go(job.leaf)
+                job.stop()
+            elif 0 < searched < len(cubes) and all(map(run.is_settled, cubes[searched:])):
+                job.end_search()
 
     def race(self, run: Run, mark: str) -> Optional[Race]:
         """Begins the race: once in a start, and not if the whole formula is the only leaf."""
@@ -150,6 +176,21 @@ class Local(Engine):
         race.job.stop()
         if run.open():
             self.screen.say("c the leaves are ahead: the search of the whole formula is ended")
+
+
+def now(jobs: List[Job], race: Optional[Race], most: int) -> Now:
+    """What runs at this moment."""
+    moment, turns = time.time(), [job.turns() for job in jobs]
+    began = [ended[-1].end if ended else job.begin for job, ended in zip(jobs, turns)]
+    left = [max(0, len(job.leaf.behind) - len(ended)) for job, ended in zip(jobs, turns)]
+    closed = sum(turn.outcome == CLOSED for ended in turns for turn in ended)
+    return Now([moment - begin for begin in began], left, race is not None, most, closed)
+
+
+def times_of(begin: float, turns: Sequence[Turn]) -> List[float]:
+    """The seconds of leaves that were searched one after the other."""
+    ends = [begin] + [turn.end for turn in turns]
+    return [end - before for before, end in zip(ends, ends[1:])]
 
 
 @dataclass
@@ -222,7 +263,7 @@ class Rounds(Engine):
         names = os.listdir(self.folder.at("scratch"))
         running = {name.rsplit(".", 1)[0] for name in names if name.startswith("leaf")}
         self.seen = {name: self.seen.get(name, now) for name in running}
-        run.tick(len(running))
+        run.tick(Now([now - began for began in self.seen.values()]))
 
     def cut(self, run: Run, rounds: List[Round]) -> None:
         """Cuts the longest leaves if none waits. Their halves make a round of their own."""
@@ -401,7 +442,7 @@ class Slurm(Rounds):
 
 def late_leaves(run: Run, leaves: List[Leaf], seen: Dict[str, float]) -> List[Leaf]:
     """The leaves that have run long enough for a cut, the longest first."""
-    late = time.monotonic() - max(SLOW, MEANS * run.mean())
+    late = time.monotonic() - max(SLOW, MEANS * run.times.mean())
     began = lambda leaf: seen[name_of(leaf.cube)]
     return sorted((leaf for leaf in leaves if began(leaf) <= late and run.may_cut(leaf)), key=began)
 

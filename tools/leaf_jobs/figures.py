@@ -19,6 +19,34 @@ def told(seconds: float) -> str:
     return "%.0f s" % seconds if seconds >= 100 else "%.3g s" % seconds
 
 
+def took(record: Record) -> str:
+    """The time of a job. That of a leaf of another solver's block is not measured, but taken by its
+    log."""
+    is_known = record.of == 1 or bool(record.turns)
+    if not is_known and not record.bytes:
+        return "no time"  # the leaf before it has closed it, too
+    return "about " * (not is_known) + told(spent(record))
+
+
+def breaks_of(records: List[Record]) -> Tuple[List[Tuple[float, float]], float]:
+    """The times at which nothing ran, between two starts, as pairs of begin and length; and when
+    the last job ended."""
+    breaks, end = [], records[0].begin
+    for record in records:
+        if record.begin > end + 2:
+            breaks.append((end, record.begin - end))
+        end = max(end, record.end)
+    return breaks, end
+
+
+def ran(records: List[Record]) -> float:
+    """The seconds by the clock in which jobs ran, in all starts together."""
+    if not records:
+        return 0.0
+    breaks, end = breaks_of(records)
+    return end - records[0].begin - sum(length for _, length in breaks)
+
+
 def size(number: int) -> str:
     return "{:,} bytes".format(number) if number else ""
 
@@ -69,16 +97,21 @@ class State:
             as_one = sum(job.outcome == CLOSED for job in cut)
             yield "of these closed as one", "{:,}".format(as_one)
         yield "jobs", "{:,}".format(len(self.records))
+        yield "by the clock", told(ran(self.records))
         yield "time of all jobs", told(whole)
         memory = max((record.memory for record in self.records), default=0)
         if memory:
             yield "most memory", megabytes(memory)
         if jobs:
             times = sorted(map(spent, jobs))
+            longest = max(jobs, key=spent)
             yield "mean of a leaf", told(sum(times) / len(times))
             yield "median", told(times[len(times) // 2])
-            yield "longest", "%s, %.0f%% of all" % (told(times[-1]), 100 * times[-1] / whole)
+            yield "longest", "%s, %.0f%% of all" % (took(longest), 100 * times[-1] / whole)
             yield "logs", size(sum(job.bytes for job in jobs + cut))
+        lemmas = sum(record.lemmas for record in self.records)
+        if lemmas:
+            yield "lemmas in logs", "{:,}".format(lemmas)
 
 
 def state_of(run: Run, records: List[Record], is_refuted: bool) -> State:

@@ -12,6 +12,7 @@
     tasks/A_T.out    the output of task T of Slurm's array A
     formula.cnf      the formula, unpacked, if INPUT is packed
     plan.json        the program, the solver and the limits, for jobs that run elsewhere
+    report.html      what came of it, with tree.svg, timeline.svg and leaves.csv
     scratch/         what is unfinished; each start empties it
 """
 import fcntl
@@ -47,6 +48,15 @@ def publish(part: Path, path: Path) -> None:
         os.fsync(file.fileno())
     part.replace(path)
     sync(path.parent)
+
+
+def digest(path: Path) -> str:
+    """The SHA-256 of a file."""
+    found = hashlib.sha256()
+    with path.open("rb") as file:
+        for piece in iter(partial(file.read, 1 << 20), b""):
+            found.update(piece)
+    return found.hexdigest()
 
 
 def sync(folder: Path) -> None:

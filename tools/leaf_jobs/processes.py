@@ -5,9 +5,10 @@ import select
 import signal
 import subprocess
 import sys
-from dataclasses import dataclass
+import time
+from dataclasses import dataclass, field
 from pathlib import Path
-from typing import IO, Any, Callable, Optional, Sequence, Tuple, Union
+from typing import IO, Any, Callable, Dict, Optional, Sequence, Tuple, Union
 
 Word = Union[str, Path]
 
@@ -18,6 +19,8 @@ class Command:
     output: Path  # the file of its standard output
     seconds: Optional[float] = None  # the time after which it is killed; None: never
     reader: Optional["Reader"] = None  # of the FIFO to which it writes
+    searches: bool = False  # whether it may take hours: it is ended at once if the run is
+    lines: Optional["Lines"] = None  # what hears its standard output, line by line
 
 
 @dataclass(frozen=True)
@@ -26,6 +29,21 @@ class Reader:
 
     command: Command
     pipe: Path
+
+
+@dataclass
+class Lines:
+    """The `c` lines that a command prints, each with the moment at which it was heard."""
+
+    moments: Dict[str, float] = field(default_factory=dict)
+    rest: bytes = b""  # what follows the last end of a line
+
+    def hear(self, piece: bytes) -> None:
+        *lines, self.rest = (self.rest + piece).split(b"\n")
+        now = time.time()
+        for line in lines:
+            if line.startswith(b"c "):
+                self.moments.setdefault(line.decode("ascii", "replace"), now)
 
 
 DIE_WITH_PARENT = 1  # PR_SET_PDEATHSIG
@@ -52,13 +70,36 @@ class Process(subprocess.Popen):
     script's memory."""
 
     memory = 0  # bytes
+    lines: Optional[Lines] = None  # that hear what it prints
+    output: Optional[IO[bytes]] = None  # to which what was heard is written
 
     def poll(self) -> Optional[int]:
+        self.hear()
         return self.look(os.WNOHANG)
 
     def wait(self, timeout: Optional[float] = None) -> int:
         self.look(0)
         return self.returncode
+
+    @property
+    def pipe(self) -> Optional[int]:
+        """From what is read that which it prints; None if that goes to a file."""
+        return opened(self.stdout).fileno() if self.output else None
+
+    def hear(self) -> None:
+        """Reads what was printed since the last time, if that goes to a pipe."""
+        while self.lines and self.output:
+            try:
+                piece = os.read(opened(self.stdout).fileno(), 1 << 16)
+            except BlockingIOError:
+                return
+            if not piece:
+                self.output.close()
+                opened(self.stdout).close()
+                self.output = None
+                return
+            self.output.write(piece)
+            self.lines.hear(piece)
 
     def look(self, how: int) -> Optional[int]:
         if self.returncode is not None:
@@ -69,6 +110,7 @@ class Process(subprocess.Popen):
             self.returncode = 0
             return 0
         if ended:
+            self.hear()
             is_killed = os.WIFSIGNALED(status)
             self.returncode = -os.WTERMSIG(status) if is_killed else os.WEXITSTATUS(status)
             self.memory = used.ru_maxrss * UNIT
@@ -78,10 +120,15 @@ class Process(subprocess.Popen):
 def start(command: Command, **more: Any) -> Process:
     """Starts a command in a process group of its own, so that it can be ended with its children."""
     parent = os.getpid()
-    more = {"stdin": subprocess.DEVNULL, "stderr": subprocess.STDOUT, **more}
-    with command.output.open("wb") as output:
-        return Process(command.words, stdout=output, start_new_session=True,
-                       preexec_fn=lambda: die_with(parent), **more)
+    more = {"stdin": subprocess.DEVNULL, "stderr": subprocess.STDOUT, "start_new_session": True,
+            "preexec_fn": lambda: die_with(parent), **more}
+    if command.lines is None:
+        with command.output.open("wb") as output:
+            return Process(command.words, stdout=output, **more)
+    process = Process(command.words, stdout=subprocess.PIPE, **more)
+    os.set_blocking(opened(process.stdout).fileno(), False)
+    process.lines, process.output = command.lines, command.output.open("wb", buffering=0)
+    return process
 
 
 def opened(pipe: Optional[IO[Any]]) -> IO[Any]:
@@ -174,6 +221,7 @@ class Bell:
         signal.signal(signal.SIGCHLD, lambda *_: None)
         signal.set_wakeup_fd(write, warn_on_full_buffer=False)
 
-    def wait(self, seconds: float) -> None:
-        if select.select([self.read], [], [], max(0, seconds))[0]:
+    def wait(self, seconds: float, pipes: Sequence[int] = ()) -> None:
+        """Waits so long at the most, or until there is something to be read from a pipe."""
+        if self.read in select.select([self.read, *pipes], [], [], max(0, seconds))[0]:
             os.read(self.read, 1 << 16)

@@ -1,4 +1,5 @@
-"""The report of a run, `report.html`: one file that loads no other.
+"""The report of a run, `report.html`: one file that loads no other. In the end its tree and its
+timeline stand beside it as pictures, and its leaves as CSV.
 
 The splitting tree is drawn from the root down; all leaves have the same width. Neighbours that
 would be narrower than a pixel or two are drawn as one, in the colour of the longest of them, so
@@ -6,15 +7,18 @@ that 5,000 leaves are as readable as 16.
 """
 import bisect
 import collections
+import csv
 import html
+import io
 import math
 import os
 import time
 from pathlib import Path
-from typing import Dict, List, Optional, Tuple
+from typing import Dict, Iterable, Iterator, List, Optional, Tuple
 
-from leaf_jobs.figures import State, megabytes, size, spent, state_of, told
-from leaf_jobs.files import Cube
+from leaf_jobs import places
+from leaf_jobs.figures import (State, breaks_of, megabytes, size, spent, state_of, told, took)
+from leaf_jobs.files import Cube, digest
 from leaf_jobs.leaf import CLOSED, LIMIT, Plan, Record, Records
 from leaf_jobs.run import ALL_COVERED, NOT_COVERED, Run
 from leaf_jobs.screen import Screen
@@ -24,20 +28,23 @@ NARROW = 1.5  # what is narrower than this is drawn with its neighbours
 ROWS = 400  # of the table
 EVERY = 3  # seconds after which the report is renewed at the earliest
 SHARE = 0.02  # of the time, at most, that the script spends on renewing it
+SPAN = 10000  # the longest of the times that are told apart, by the shortest
 RAMP = ((255, 246, 205), (253, 200, 105), (240, 125, 60), (190, 50, 80), (75, 20, 95))
 OPEN, COVERED, FORK = "#d9d9df", "#cfe3f3", "#f4f4f7"  # of what has no time
 THIN, RED = ' stroke="#fff" stroke-width=".6"', ' stroke="#c00" stroke-dasharray="2"'  # edges
 
+INK = "text{font:11px system-ui,sans-serif;fill:#333}"
 STYLE = """
 body{font:15px/1.5 system-ui,sans-serif;color:#222;max-width:1160px;margin:2em auto;padding:0 1em}
 h1{font-size:1.5em;margin:0}h2{font-size:1.1em;margin:2em 0 .3em}p{margin:.3em 0;color:#555}
-svg{display:block;max-width:100%;height:auto}svg text{font:11px system-ui,sans-serif;fill:#333}
+svg{display:block;width:100%;min-width:760px;height:auto}
 dl{display:flex;flex-wrap:wrap;gap:.6em 2.2em;margin:1em 0}dt{font-size:.8em;color:#666}
 dd{margin:0;font-size:1.15em;font-weight:600}
 table{border-collapse:collapse;width:100%;font-size:.85em;font-variant-numeric:tabular-nums}
 th,td{padding:.15em .7em;text-align:right;border-bottom:1px solid #eee;white-space:nowrap}
 th{color:#666;font-weight:600}.cube{text-align:left}
-td.cube{white-space:normal;overflow-wrap:anywhere}
+td.cube{white-space:normal;overflow-wrap:anywhere;min-width:12em}
+.wide{overflow-x:auto}code{overflow-wrap:anywhere}
 """
 
 
@@ -45,7 +52,8 @@ class Scale:
     """Colours for times, by their logarithm: from the shortest to the longest."""
 
     def __init__(self, times: List[float]) -> None:
-        self.least, self.most = min(times, default=0.001), max(times, default=0.001)
+        self.most = max(times, default=0.001)
+        self.least = max(min(times, default=0.001), self.most / SPAN)
 
     def place(self, seconds: float) -> float:
         """From 0 for the shortest to 1 for the longest."""
@@ -65,7 +73,13 @@ class Scale:
 
 def picture(height: float, parts: List[str], label: str) -> str:
     size = 'viewBox="0 0 %d %d" width="%d" height="%d"' % (WIDTH, height, WIDTH, height)
-    return '<svg %s role="img" aria-label="%s">%s</svg>' % (size, label, "".join(parts))
+    head = '<svg xmlns="http://www.w3.org/2000/svg" %s role="img" aria-label="%s">' % (size, label)
+    return "%s<style>%s</style>%s</svg>\n" % (head, INK, "\n".join(parts))
+
+
+def framed(drawn: str) -> str:
+    """A picture or a table of the page, which is moved from side to side on a narrow screen."""
+    return "<div class=wide>%s</div>" % drawn
 
 
 def box(x: float, y: float, wide: float, high: float, colour: str, title: str,
@@ -90,8 +104,7 @@ class Tree:
         self.wide = WIDTH / len(self.cubes)
         self.floor = (self.depth + 2) * self.high
         self.own = state.own.issuperset
-        self.longest = [spent(last[cube]) if cube in state.own and cube in last else None
-                        for cube in self.cubes]
+        self.jobs = [last.get(cube) if cube in state.own else None for cube in self.cubes]
 
     def draw(self) -> str:
         parts, stack = [], [(0, 0, len(self.cubes))]
@@ -135,10 +148,11 @@ class Tree:
 
     def leaves(self, depth: int, low: int, high: int) -> List[str]:
         """A leaf, or several that are too narrow to be told apart."""
-        seconds = max(filter(None, self.longest[low:high]), default=None)
+        job = max(filter(None, self.jobs[low:high]), key=spent, default=None)
+        seconds = spent(job) if job else None
         colour, words = self.kind(self.cubes[low:high])
-        if seconds:
-            colour, words = self.scale.colour(seconds), told(seconds)
+        if job and seconds:
+            colour, words = self.scale.colour(seconds), took(job)
         x, y, wide = low * self.wide, depth * self.high, (high - low) * self.wide
         lead, ink = "leaves %d to %d, at most" % (low + 1, high), self.scale.ink(seconds)
         if high - low == 1:
@@ -147,7 +161,7 @@ class Tree:
         parts = [box(x, y, wide, self.floor - y, colour, title, THIN if wide > 3 else "")]
         if high - low == 1:
             parts += self.label(self.cubes[low], x, y, wide, ink)
-        if wide > 7 * len(words):
+        if wide > 6 * len(words):
             parts.append(text(x + wide / 2, self.floor - 6, words, ink=ink))
         return parts
 
@@ -178,33 +192,32 @@ def curve(times: List[float], scale: Scale) -> str:
         seconds, count = times[first], min(step, len(times) - first)
         title = "%s, number %d of %d" % (told(seconds), first + 1, len(times))
         gap = 0.8 if wide > 4 else 0
-        y, colour = level(seconds), scale.colour(seconds)
+        y, colour = min(high + 8, level(seconds)), scale.colour(seconds)
         parts.append(box(left + first * wide, y, count * wide - gap, high + 8 - y, colour, title))
     return picture(high + 14, parts, "the leaves by time")
 
 
-def lanes_of(records: List[Record]) -> Tuple[List[int], List[Tuple[str, int]]]:
-    """For each job the lane in which it is drawn: the first of its host that is free by then."""
-    free: Dict[str, List[float]] = collections.defaultdict(list)
-    lanes: List[Tuple[str, int]] = []
+def machines_of(records: List[Record]) -> Dict[str, int]:
+    """The number of each machine, from 1, in the order in which their first jobs began. Files that
+    are published have it in the place of the name, so that another machine makes the same."""
+    return {host: number for number, host in
+            enumerate(dict.fromkeys(record.host for record in records), 1)}
+
+
+def lanes_of(records: List[Record]) -> Tuple[List[int], List[Tuple[int, int]]]:
+    """For each job the lane in which it is drawn: the first of its machine that is free by then."""
+    machines = machines_of(records)
+    free: Dict[int, List[float]] = collections.defaultdict(list)
+    lanes: List[Tuple[int, int]] = []
     for record in records:
-        ends = free[record.host]
+        machine = machines[record.host]
+        ends = free[machine]
         idle = (lane for lane, end in enumerate(ends) if end < record.begin + 0.01)
         lane = next(idle, len(ends))
         ends[lane:lane + 1] = [record.end]
-        lanes.append((record.host, lane))
+        lanes.append((machine, lane))
     order = {lane: place for place, lane in enumerate(sorted(set(lanes)))}
     return [order[lane] for lane in lanes], sorted(order)
-
-
-def breaks_of(records: List[Record]) -> Tuple[List[Tuple[float, float]], float]:
-    """The times at which nothing ran, between two starts, as pairs of begin and length."""
-    breaks, end = [], records[0].begin
-    for record in records:
-        if record.begin > end + 2:
-            breaks.append((end, record.begin - end))
-        end = max(end, record.end)
-    return breaks, end
 
 
 def workers(records: List[Record], scale: Scale) -> str:
@@ -217,16 +230,15 @@ def workers(records: List[Record], scale: Scale) -> str:
     per_second = (WIDTH - left) / max(0.001, at(end))
     parts = []
     for record, place in zip(records, places):
-        others = " and %d behind" % len(record.behind) if record.behind else ""
-        leaves, seconds = Tree.told(record.cube) + others, told(spent(record))
-        title = "%s, %s, %s" % (leaves, seconds, record.outcome)
-        x, wide = left + at(record.begin) * per_second, (record.end - record.begin) * per_second
-        more = RED if record.outcome != CLOSED and wide > 3 else ""
-        colour, wide = scale.colour(spent(record)), max(0.4, wide - 0.4)
-        parts.append(box(x, place * high, wide, high - 1, colour, title, more))
-    for place, (host, lane) in enumerate(lanes):
+        for share in record.shares():
+            title = "%s, %s, %s" % (Tree.told(share.cube), took(share), record.outcome)
+            x, wide = left + at(share.begin) * per_second, (share.end - share.begin) * per_second
+            more = RED if record.outcome != CLOSED and wide > 3 else ""
+            colour, wide = scale.colour(spent(share)), max(0.4, wide - 0.4)
+            parts.append(box(x, place * high, wide, high - 1, colour, title, more))
+    for place, (machine, lane) in enumerate(lanes):
         if high > 9:
-            name = "%s %d" % (host[:14], lane + 1)
+            name = "machine %d, job %d" % (machine, lane + 1)
             parts.append(text(left - 8, place * high + high / 2 + 3, name, "end"))
     floor = len(lanes) * high
     for begin, _ in breaks:
@@ -257,52 +269,82 @@ def table(state: State, last: Dict[Cube, Record]) -> str:
         cells = [closed(state, cube)] + [""] * 6
         if job:
             began = time.strftime("%d %b %H:%M:%S", time.localtime(job.begin))
-            cells[1:] = [told(spent(job)), megabytes(job.memory), size(job.bytes), began, job.host,
+            cells[1:] = [took(job), megabytes(job.memory), size(job.bytes), began, job.host,
                          job.outcome]
         row = "".join("<td>" + html.escape(cell) for cell in [str(place)] + cells)
         lines.append("<tr>%s<td class=cube>%s" % (row, html.escape(Tree.told(cube))))
     return "<table>%s</table>" % "\n".join(lines)
 
 
+BESIDE = ("tree.svg", "timeline.svg", "leaves.csv")  # files beside the report
 NONE = 1  # the status of a run that was ended before it had an answer
 ANSWERS = {20: "s UNSATISFIABLE", 10: "s SATISFIABLE", 0: "s UNKNOWN", ALL_COVERED: "s COVERED",
            NOT_COVERED: "s NOT COVERED", NONE: "ended without answer", None: "under way"}
 RENEWED = '<meta http-equiv="refresh" content="5">'
 TREE = """<h2>The splitting tree</h2><p>From the whole formula down to the leaves: the lighter, the
 sooner closed (%s); the darker, the later (%s). Blue leaves are closed by another's log, grey ones
-are open.</p>"""
+are open. A time that is told with <i>about</i> was not measured: it is the part of the time of a
+job with several leaves that the leaf's log is of the job's.</p>"""
 CURVE = "<h2>Leaves by time</h2><p>The longest first; each line up is ten times as long.</p>"
 LANES = """<h2>Workers</h2><p>Which job ran when. Dashed lines are times at which nothing ran; a red
 edge is a job that closed nothing.</p>"""
 
 
-def page(name: str, how: str, state: State, status: Optional[int]) -> str:
+def scale_of(state: State, last: Dict[Cube, Record]) -> Scale:
+    """Colours for the times that are drawn: of leaves with logs of their own, and of cut ones."""
+    drawn = [last[cube] for cube in state.own if cube in last] + state.cut_leaves(last)
+    return Scale([spent(record) for record in drawn
+                  if record.of == 1 or record.bytes or record.turns])
+
+
+def page(name: str, how: str, state: State, status: Optional[int],
+         more: Iterable[Tuple[str, str]] = ()) -> str:
     last = state.last()
-    times = {cube: spent(record) for cube, record in last.items()}
-    shown = [times[cube] for cube in state.cubes if cube in state.own and cube in times]
-    scale, title = Scale(list(times.values())), html.escape(os.path.basename(name))
+    scale, title = scale_of(state, last), html.escape(os.path.basename(name))
+    shown = [spent(last[cube]) for cube in state.cubes if cube in state.own and cube in last]
     body = ["<h1>%s: %s</h1><p>%s</p>" % (title, ANSWERS[status], html.escape(how))]
     figures = "".join("<div><dt>%s<dd>%s</div>" % figure for figure in state.facts())
     body.append("<dl>%s</dl>" % figures)
-    if times:
+    body += ["<p>%s: <code>%s</code></p>" % (what, html.escape(told)) for what, told in more]
+    if last:
         body.append(TREE % (told(scale.least), told(scale.most)))
-        body.append(Tree(state, last, scale).draw())
+        body.append(framed(Tree(state, last, scale).draw()))
     if shown:
-        body += [CURVE, curve(shown, scale)]
+        body += [CURVE, framed(curve(shown, scale))]
     if state.records:
-        body += [LANES, workers(state.records, scale)]
-    more = ", the %d longest" % ROWS if len(state.cubes) > ROWS else ""
-    body.append("<h2>The leaves%s</h2>%s" % (more, table(state, last)))
-    head = '<meta charset="utf-8"><title>%s</title><style>%s</style>' % (title, STYLE)
+        body += [LANES, framed(workers(state.records, scale))]
+    only = ", the %d longest" % ROWS if len(state.cubes) > ROWS else ""
+    body.append("<h2>The leaves%s</h2>%s" % (only, framed(table(state, last))))
+    head = '<meta charset="utf-8"><meta name="viewport" content="width=device-width">'
+    head += "<title>%s</title><style>%s</style>" % (title, STYLE)
     head += RENEWED if status is None else ""
     return '<!DOCTYPE html><html lang="en">%s\n%s</html>\n' % (head, "\n".join(body))
+
+
+def listed(state: State) -> str:
+    """The leaves as CSV, in the order of the tree. Moments count from the first job."""
+    last, rows = state.last(), io.StringIO()
+    write = csv.writer(rows, lineterminator="\n").writerow
+    write(["leaf", "cube", "closed", "job", "leaves_of_job", "began", "seconds", "memory_bytes",
+           "log_bytes", "machine"])
+    first = min((record.begin for record in state.records), default=0.0)
+    machines = machines_of(state.records)
+    for place, cube in enumerate(state.cubes, 1):
+        job = last.get(cube)
+        cells: List[object] = [""] * 7
+        if job:
+            cells = [job.outcome, job.of, "%.3f" % (job.begin - first), "%.3f" % spent(job),
+                     job.memory, job.bytes, machines[job.host]]
+        write([place, " ".join(map(str, cube)), closed(state, cube), *cells])
+    return rows.getvalue()
 
 
 def how_of(plan: Plan, cuts: int) -> str:
     """By what the formula was split and its leaves were searched."""
     how = "satcluster refute"
     if plan.solver:
-        how = " && ".join(" ".join(command) for command in plan.solver)
+        how = " && ".join(" ".join([os.path.basename(word), *more])
+                          for word, *more in plan.solver)
     how += ", limit %d lemmas" % plan.limit if plan.limit else ""
     how += ", limit %d seconds" % plan.seconds if plan.seconds else ""
     how += "; the tree was made by " + plan.split if plan.split else ""
@@ -310,20 +352,39 @@ def how_of(plan: Plan, cuts: int) -> str:
 
 
 class Report:
-    """The file of the report, written again and again."""
+    """The file of the report, written again and again; in the end, with what stands beside it."""
 
-    def __init__(self, run: Run) -> None:
-        self.run, self.records = run, Records(run.folder)
+    def __init__(self, run: Run, proof: Optional[str] = None) -> None:
+        self.run, self.records, self.proof = run, Records(run.folder), proof
 
     def write(self, status: Optional[int]) -> Path:
         """Writes it and answers its path. It is not synced, since it can be written again."""
         run, now = self.run, time.strftime("; %d %B %Y, %H:%M:%S")
         state = state_of(run, self.records.all(), status in (20, ALL_COVERED))
-        text = page(run.plan.input, how_of(run.plan, run.number - 1) + now, state, status)
-        part, path = run.folder.at("scratch", "report.html"), run.folder.at("report.html")
+        more = [] if status is None else list(self.origin(status))
+        how = how_of(run.plan, run.number - 1) + now
+        self.put("report.html", page(run.plan.input, how, state, status, more))
+        if status is not None:
+            last = state.last()
+            scale = scale_of(state, last)
+            lanes = workers(state.records, scale) if state.records else picture(1, [], "no jobs")
+            texts = Tree(state, last, scale).draw(), lanes, listed(state)
+            for name, text in zip(BESIDE, texts):
+                self.put(name, text)
+        return run.folder.at("report.html")
+
+    def put(self, name: str, text: str) -> None:
+        part = self.run.folder.at("scratch", name)
         part.write_text(text, encoding="utf-8", errors="replace")
-        part.replace(path)
-        return path
+        part.replace(self.run.folder.at(name))
+
+    def origin(self, status: int) -> Iterator[Tuple[str, str]]:
+        """Of what files and by which version the answer was made."""
+        plan = self.run.plan
+        yield "SHA-256 of the formula", digest(Path(plan.input))
+        if status == 20 and self.proof:
+            yield "SHA-256 of the proof", digest(Path(self.proof))
+        yield "version", places.version(plan.program)
 
 
 class Live:

@@ -11,7 +11,8 @@ from leaf_jobs.files import (LOG, RECEIPT, Cube, Folder, answer_of, closed_by, l
                              publish, read_cubes)
 from leaf_jobs.leaf import CLOSED, LIMIT, MODEL, Leaf, Plan
 from leaf_jobs.processes import Bell, Command, Word, kill, opened, output_of, start, status_of
-from leaf_jobs.screen import Screen, clock
+from leaf_jobs.progress import Now, Times, line, told
+from leaf_jobs.screen import Screen
 from leaf_jobs.unpacker import Unpacker
 
 TRIES = 3  # how often a leaf is run in one start before it is given up
@@ -63,8 +64,9 @@ class Join(FileReader):
         self.told = 0  # how many of them were sent
         self.folder, self.unpacker = folder, Unpacker(folder)
         self.pipes: Dict[str, str] = {}  # the name of the log that each FIFO has
-        dry, written = (["--dry"], []) if proof is None else ([], [proof])
-        words = [plan.program, "join", *plan.limits(), "--explain", *dry, "--cubes", tree,
+        form = ["--binary"] if plan.binary else []
+        form, written = (["--dry"], []) if proof is None else (form, [proof])
+        words = [plan.program, "join", *plan.limits(), "--explain", *form, "--cubes", tree,
                  plan.input, *written, "-"]
         with folder.at("scratch", "errors").open("wb") as errors:
             self.process = start(Command(words, self.output), stdin=subprocess.PIPE, stderr=errors,
@@ -127,8 +129,9 @@ class Run:
     """The leaves that wait, that run and that are closed. Engines tell it which job has ended."""
 
     def __init__(self, folder: Folder, plan: Plan, screen: Screen, bell: Bell,
-                 proof: Optional[str] = None) -> None:
+                 proof: Optional[str] = None, sorts: bool = False) -> None:
         self.proof = proof  # the file to which `join` writes it
+        self.sorts = sorts  # whether `join` reads logs in the order of names, after the last leaf
         self.covers = plan.receipts and proof is None  # whether the run ends with `cover`
         self.folder, self.plan, self.screen, self.bell = folder, plan, screen, bell
         self.tries: Counter[Cube] = collections.Counter()
@@ -139,7 +142,7 @@ class Run:
         self.alone: Set[Cube] = set()  # leaves that need logs of their own, as `join` has told
         self.failures, self.closed, self.splits = 0, 0, 0
         self.longest = 0.0  # seconds of a leaf's job
-        self.spent = 0.0  # seconds of all jobs that have closed a leaf
+        self.times = Times()  # of the leaves that jobs have closed
         self.halves: Dict[Cube, List[Cube]] = {}  # of leaves that were cut in two
         self.uncut: Set[Cube] = set()  # leaves that cannot be cut
         self.apart: Set[Cube] = set()  # leaves of blocks that were taken apart
@@ -226,14 +229,15 @@ class Run:
         """How many leaves nothing closes yet."""
         return sum(cube not in self.done for cube in self.cubes)
 
-    def took(self, leaf: Leaf, seconds: float, outcome: str) -> None:
-        """Takes the time of a job, of a leaf or a block."""
-        self.longest = max(self.longest, seconds / len(leaf.cubes))
-        self.spent += seconds if outcome == CLOSED else 0
-
-    def mean(self) -> float:
-        """The mean of the seconds that closed leaves have taken."""
-        return self.spent / max(1, self.closed)
+    def took(self, leaf: Leaf, seconds: float, outcome: str,
+             turns: Sequence[float] = ()) -> None:
+        """Takes the time of a job, of a leaf or a block; those of the leaves of a block, if they
+        are known."""
+        count = len(leaf.cubes)
+        times = list(turns) or [seconds / count] * count
+        self.longest = max(self.longest, *times)
+        if outcome == CLOSED:
+            self.times.all += times
 
     def let_go(self, leaf: Leaf) -> None:
         """Its job was ended without a result."""
@@ -263,14 +267,23 @@ class Run:
             self.take_log(leaf, leaf.cubes)
         elif outcome == MODEL:
             self.model = True
-        elif outcome == LIMIT:
+        else:
             closed = self.folder.block(self.plan.closing(*leaf.cubes)) if leaf.behind else []
             if closed:
                 self.take_log(leaf, closed)
+            if outcome != LIMIT:
+                self.fail(leaf, note)
+                return
             for cube in self.left_by(leaf):
                 self.met_limit(cube)
-        else:
-            self.fail(leaf, note)
+
+    def kept(self, leaf: Leaf, outcome: str) -> None:
+        """What follows when a job has ended since the run ends."""
+        self.let_go(leaf)
+        if outcome == CLOSED:
+            self.done.update(leaf.cubes)
+        elif leaf.behind:
+            self.done.update(self.folder.block(self.plan.closing(*leaf.cubes)))
 
     def take_log(self, leaf: Leaf, closed: Sequence[Cube]) -> None:
         """Takes a log of a job, which closes these of its leaves."""
@@ -371,14 +384,16 @@ class Run:
         return self.failures >= HOPELESS and not self.closed
 
     def may_cut(self, leaf: Leaf) -> bool:
-        is_whole = leaf.cube not in self.apart if leaf.behind else leaf.cube in self.place
+        is_whole = leaf.cubes[-1] not in self.apart if leaf.behind else leaf.cube in self.place
         return is_whole and leaf.cube not in self.uncut and not self.hopeless()
 
-    def cut(self, leaf: Leaf) -> None:
-        """Cuts a leaf in two, or takes a block apart; its job goes on beside those of the parts."""
+    def cut(self, leaf: Leaf, searched: int = 0) -> None:
+        """Cuts a leaf in two, or takes a block apart, of which so many leaves were searched; its
+        job goes on beside those of the parts."""
         if leaf.behind:
-            self.queue.extend(cube for cube in reversed(leaf.cubes) if cube not in self.done)
-            self.apart.update(leaf.cubes)
+            left = leaf.cubes[searched:]
+            self.queue.extend(cube for cube in reversed(left) if cube not in self.done)
+            self.apart.update(left)
         elif not self.split(leaf.cube):
             self.uncut.add(leaf.cube)
 
@@ -414,8 +429,8 @@ class Run:
         return join
 
     def join_logs(self) -> None:
-        """Begins a join of the logs that stand, unless the run ends with `cover`."""
-        if self.model or not self.covers:
+        """Begins a join of the logs that stand, unless it is to be begun later."""
+        if self.model or not (self.covers or self.sorts):
             self.begin_join(*self.folder.names("logs"))
 
     def put_off_join(self) -> None:
@@ -438,17 +453,13 @@ class Run:
         for name in set(self.folder.names("trees")) - named:
             self.folder.at(name).unlink()
 
-    def tick(self, running: int, is_raced: bool = False) -> None:
-        """Prints the progress; the time left is estimated by the leaves that are closed."""
-        waits, gone = self.open(), time.monotonic() - self.began
-        line = "c %d of %d leaves closed, %d running, %d open" % (
-            len(self.cubes) - waits, len(self.cubes), running, max(0, waits - running))
-        line += ", %d split" % self.splits if self.splits else ""
-        line += ", beside the whole formula" if is_raced else ""
-        line += ", %s gone" % clock(gone)
-        if self.closed:
-            line += ", about %s left" % clock(gone / self.closed * max(0, waits - running / 2))
-        self.screen.progress(line)
+    def tick(self, now: Now) -> None:
+        """Prints the progress."""
+        is_open = self.open() - now.searched
+        left = told(self.times, self.times.left(now, max(0, is_open - now.leaves)))
+        self.screen.progress(line(len(self.cubes) - is_open, len(self.cubes), now,
+                                  time.monotonic() - self.began, left, self.splits,
+                                  self.screen.width()))
         self.renew()
         self.join_anew()
 

@@ -4,6 +4,9 @@ import sys
 import time
 
 
+COLUMNS = 80  # of a line that goes to no terminal
+
+
 def pause(seconds: float) -> int:
     """The seconds between two lines of progress if none can be rewritten, so many seconds after the
     start: short at first, which shows that the run goes on, then long, which keeps the list short.
@@ -25,14 +28,18 @@ class Screen:
         print("\r\x1b[K" * bool(self.shown) + line, flush=True)
         self.shown = ""
 
+    def width(self) -> int:
+        """The characters of a line of progress."""
+        return (shutil.get_terminal_size().columns if self.rewrites else COLUMNS) - 1
+
     def progress(self, line: str) -> None:
         now = time.monotonic()
         if self.quiet or now < self.next:
             return
         self.next = now + (0.2 if self.rewrites else pause(now - self.began))
         if self.rewrites:
-            self.shown = line[: shutil.get_terminal_size().columns - 1]
-            print("\r\x1b[K" + self.shown, end="", flush=True)
+            self.shown = line
+            print("\r\x1b[K" + line, end="", flush=True)
         else:
             self.print(line)
 
@@ -45,4 +52,8 @@ def plain(line: str) -> str:
 
 
 def clock(seconds: float) -> str:
-    return "%d:%02d:%02d" % (seconds // 3600, seconds // 60 % 60, seconds % 60)
+    """Minutes and seconds, or with hours before them."""
+    hours, rest = divmod(int(seconds), 3600)
+    if hours:
+        return "%d:%02d:%02d" % (hours, rest // 60, rest % 60)
+    return "%d:%02d" % (rest // 60, rest % 60)

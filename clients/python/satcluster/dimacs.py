@@ -1,13 +1,15 @@
-"""DIMACS formulas as streams: a formula of any size takes the memory of one clause.
+"""DIMACS formulas as streams: a formula of any size takes the memory of some clauses.
 
 `load` and `dump` take open files, as those of `json` do:
 
     with open("f.cnf", encoding="ascii") as file:
         solver.append_formula(dimacs.load(file))
 """
+from itertools import chain, islice
 from typing import IO, Iterable, Iterator, List, NamedTuple, NoReturn, Tuple
 
 WIDTH = 10  # digits of a number that is filled in later
+BATCH = 1024  # clauses that are spelled at once, which takes half the time of one by one
 
 
 class Size(NamedTuple):
@@ -91,12 +93,15 @@ def dump(clauses: Iterable[Iterable[int]], file: IO[str], variables: int = 0) ->
 
 def _dump(clauses: Iterable[Iterable[int]], file: IO[str]) -> Size:
     greatest = count = 0
-    for clause in clauses:
-        literals = [*clause]
-        if literals:
-            if 0 in literals:
-                raise ValueError("a literal is 0: %r" % literals[:10])
-            greatest = max(greatest, max(literals), -min(literals))
-        file.write("%d " * len(literals) % tuple(literals) + "0\n")
-        count += 1
-    return Size(greatest, count)
+    rest = iter(clauses)
+    while True:
+        rows = [[*clause] for clause in islice(rest, BATCH)]
+        numbers = [*chain.from_iterable(rows)]
+        if 0 in numbers:
+            raise ValueError("a literal is 0: %r" % next(row for row in rows if 0 in row)[:10])
+        if numbers:
+            greatest = max(greatest, max(numbers), -min(numbers))
+        file.write("".join(["%d " * len(row) + "0\n" for row in rows]) % tuple(numbers))
+        count += len(rows)
+        if len(rows) < BATCH:
+            return Size(greatest, count)

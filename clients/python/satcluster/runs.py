@@ -80,7 +80,7 @@ def _check(end: _End) -> Check:
 
 def solve(clauses: Iterable[Iterable[int]], *, proof: Optional[Name] = None,
           program: Optional[Name] = None) -> Answer:
-    """Decides the clauses by `satcluster solve`, unsplit, in one process. proof: the path of the
+    """Decides the clauses by `satcluster decide`, in one process. proof: the path of the
     LRAT proof, which is written if nothing satisfies them. Raises SolverError if the program gives
     no answer."""
     path = find(program)
@@ -89,13 +89,13 @@ def solve(clauses: Iterable[Iterable[int]], *, proof: Optional[Name] = None,
         with open(formula, "w", encoding="ascii") as file:
             dimacs.dump(clauses, file)
         end = [os.path.abspath(proof)] if proof is not None else []
-        return _answer(_run([path, "solve", "--depth", "0", formula, *end]))
+        return _answer(_run([path, "decide", "--large", formula, *end]))
 
 
 def check(cnf: Name, proof: Name, *, program: Optional[Name] = None) -> Check:
     """Checks an LRAT proof of the formula in the file `cnf` by `satcluster check`. Raises
     SolverError if a file cannot be read, or the formula has a fault."""
-    words = [find(program), "check", os.path.abspath(cnf), os.path.abspath(proof)]
+    words = [find(program), "check", "--large", os.path.abspath(cnf), os.path.abspath(proof)]
     return _check(_run(words))
 
 
@@ -104,7 +104,7 @@ def check_session(events: Name, proof: Name, *, program: Optional[Name] = None,
     """Checks all answers of a session by `satcluster check --session`. end: of how many bytes of
     `events`; of all if it is left out. Raises SolverError if a file cannot be read, or the events
     have a fault."""
-    words = [find(program), "check", "--session"]
+    words = [find(program), "check", "--session", "--large"]
     if end is None:
         return _check(_run([*words, os.path.abspath(events), os.path.abspath(proof)]))
     with open(events, "rb") as file:

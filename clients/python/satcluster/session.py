@@ -7,27 +7,61 @@ from typing import IO, List, NamedTuple, NoReturn, Optional
 from .program import SolverError
 
 PATIENCE = 60  # seconds that a program has to end once its input has ended
-ENOUGH = 1 << 16  # bytes that are sent at once
-LETTERS = {b"s SATISFIABLE\n": b"v", b"s UNSATISFIABLE\n": b"f"}
+ENOUGH = 1 << 16  # bytes that are sent or read at once
+UNKNOWN = b"s UNKNOWN\n"
+LETTERS = {b"s SATISFIABLE": b"v", b"s UNSATISFIABLE": b"f"}
+ENDS = (b" 0\n", UNKNOWN)  # of an answer
 
 
 class Reply(NamedTuple):
-    """status: True, False, or None after `s UNKNOWN`; literals: the model's, or the core's."""
+    """status: True, False, or None after `s UNKNOWN`; lines: those of the model, or of the core."""
 
     status: Optional[bool]
-    literals: List[int]
+    lines: bytes
+
+    def literals(self) -> List[int]:
+        """Parses the lines. That takes longer than an easy query, so it is done when literals are
+        wanted, and not before."""
+        words = self.lines.translate(None, b"vf").split()
+        try:
+            return [*map(int, words[:-1])]
+        except ValueError:
+            raise SolverError("the solver has printed what is no literal") from None
+
+
+NOTHING = Reply(None, b"")
 
 
 def _write(descriptor: int, data: bytes) -> None:
-    left = memoryview(data)
-    while left:
-        left = left[os.write(descriptor, left):]
+    done = os.write(descriptor, data)
+    while done < len(data):
+        data = data[done:]
+        done = os.write(descriptor, data)
 
 
 def _opened(pipe: Optional[IO[bytes]]) -> IO[bytes]:
     """A pipe of a process that was started with it."""
     assert pipe is not None
     return pipe
+
+
+def _is_list(lines: bytes, letter: bytes) -> bool:
+    """Whether these lines begin with the letter, and have numbers with one 0, at the end."""
+    zeros = lines.count(b" 0\n") + lines.count(b" 0 ")
+    no_numbers = lines.translate(None, b" -0123456789")
+    return zeros == 1 and lines.endswith(b" 0\n") and no_numbers == no_numbers.count(b"\n") * (
+        letter + b"\n")
+
+
+def _reply(printed: bytes) -> Optional[Reply]:
+    """The answer that was printed; None if it is none."""
+    if printed == UNKNOWN:
+        return NOTHING
+    line, _, lines = printed.partition(b"\n")
+    letter = LETTERS.get(line)
+    if letter is None or not _is_list(lines, letter):
+        return None
+    return Reply(letter == b"v", lines)
 
 
 class Session:
@@ -44,16 +78,19 @@ class Session:
         self._events = open(events, "wb", buffering=0) if events is not None else None
         self._waiting = ["p inccnf\n"]
         self._length = 0  # of what waits, about
-        self._line = b""  # the last one that was read
-        words = [program, "session", "--limit", str(limit), "-"]
+        self._printed = b""  # the last answer, or what was printed in the place of one
+        words = [program, "session", "--large", "--limit", str(limit), "-"]
         try:
             self._process = subprocess.Popen(words + ([proof] if proof is not None else []),
-                                             stdin=subprocess.PIPE, stdout=subprocess.PIPE)
+                                             stdin=subprocess.PIPE, stdout=subprocess.PIPE,
+                                             bufsize=0)
         except OSError as why:
             self._close_events()
             raise SolverError("%s cannot be run: %s" % (program, why)) from why
         self._input = _opened(self._process.stdin)
         self._output = _opened(self._process.stdout)
+        self._into = self._input.fileno()
+        self._from = self._output.fileno()
         self.sent = 0  # bytes of the events
         self.is_open = True
 
@@ -73,7 +110,12 @@ class Session:
         self._waiting.append(line)
         self._send()
         try:
-            return self._reply()
+            self._printed = printed = self._read()
+            reply = _reply(printed)
+            if reply is None:
+                self._process.kill()
+                self._died()
+            return reply
         except BaseException:
             self.kill()
             raise
@@ -95,14 +137,15 @@ class Session:
 
     def _send(self) -> None:
         data = "".join(self._waiting).encode("ascii")
-        self._waiting, self._length = [], 0
+        self._waiting.clear()
+        self._length = 0
         if not self.is_open:
             raise SolverError("the session has ended", self._last(), self._process.returncode)
         try:
             if self._events is not None:
                 _write(self._events.fileno(), data)
             self.sent += len(data)
-            _write(self._input.fileno(), data)
+            _write(self._into, data)
         except BrokenPipeError:
             self._died()
         except BaseException:
@@ -110,33 +153,24 @@ class Session:
             raise
 
     def _read(self) -> bytes:
-        """The next line of an answer. A `c` line tells why there is none."""
-        line = self._output.readline()
-        if line[:1] == b"c" or line[-1:] != b"\n":
-            self._line = line or self._line
-            self._died()
-        self._line = line
-        return line
+        """What the program prints up to the end of an answer. It prints nothing behind it until it
+        is asked again, so no line has to be looked for."""
+        printed = os.read(self._from, ENOUGH)
+        return printed if printed.endswith(ENDS) else self._read_on(bytearray(printed))
 
-    def _reply(self) -> Reply:
-        """One answer, with the literals of its `v` or `f` lines, which end with 0."""
-        line = self._read()
-        if line == b"s UNKNOWN\n":
-            return Reply(None, [])
-        letter = LETTERS.get(line)
-        literals: List[int] = []
-        try:
-            while letter is not None and 0 not in literals[-1:]:
-                words = self._read().split()
-                letter = letter if words[:1] == [letter] and len(words) > 1 else None
-                literals += map(int, words[1:])
-        except ValueError:
-            letter = None
-        if letter is None or 0 in literals[:-1]:
-            self._process.kill()
-            self._died()
-        literals.pop()
-        return Reply(letter == b"v", literals)
+    def _read_on(self, printed: bytearray) -> bytes:
+        """The same of an answer that is longer than what was read. One that begins with another
+        letter than `s` is none: a `c` line, and the program's end, tell why."""
+        while not printed.endswith(ENDS):
+            is_wrong = printed[:1] not in (b"s", b"c", b"")
+            if is_wrong:
+                self._process.kill()
+            more = b"" if is_wrong else os.read(self._from, ENOUGH)
+            if not more:
+                self._printed = bytes(printed) or self._printed
+                self._died()
+            printed += more
+        return bytes(printed)
 
     def _died(self) -> NoReturn:
         """Raises what the program has left: its last line and its status."""
@@ -147,7 +181,9 @@ class Session:
         raise SolverError("the solver has %s; %s" % (how, last), line, status)
 
     def _last(self) -> str:
-        return self._line.decode("ascii", "replace").rstrip("\n")
+        """The last line that was printed."""
+        line = self._printed.rstrip(b"\n").rpartition(b"\n")[2]
+        return line.decode("ascii", "replace")
 
     def _end(self) -> None:
         """Closes the program's input, reads to its end what it prints, and waits for it."""
@@ -158,8 +194,8 @@ class Session:
         timer.start()
         try:
             self._input.close()
-            for line in self._output:
-                self._line = line
+            for part in iter(lambda: os.read(self._from, ENOUGH), b""):
+                self._printed = (self._printed + part)[-ENOUGH:]
             self._process.wait()
         finally:
             timer.cancel()

@@ -12,7 +12,7 @@ use Rattle.command_line.specs.declared.commands.run_words.Place.TheVariants.{AtP
 use Rattle.command_line.specs.declared.options.Options.{Options}
 use Rattle.command_line.specs.declared.output.Printing.{Printing}
 use Rattle.command_line.specs.declared.request.Request.{Request}
-use Rattle.command_line.specs.declared.request.Request.TheVariants.{Check, Complete, Cover, Cubes, Drill, Join, Leaf, Lift, Look, Model, Receipt, Refute, Serve, Session, Solve, Split, SplitByLook, Trim, Work}
+use Rattle.command_line.specs.declared.request.Request.TheVariants.{Check, Complete, Cover, Cubes, Decide, Drill, Elaborate, Join, Leaf, Lift, Look, Model, Receipt, Refute, Serve, Session, Solve, Split, SplitByLook, Trim, Work}
 use Rattle.command_line.specs.declared.request.UsageFault.{UsageFault}
 use Rattle.command_line.specs.declared.request.UsageFault.TheVariants.{Help, NoMemory, Usage}
 
@@ -101,9 +101,9 @@ pub record NamesOptions (place : Place) (rows : List Row) (options : Options) : 
 
 -- the words of the command of this name, with these rows, make the request
 abbrev pub Makes : Text → List Row → Request → Type 0
-Makes name rows (Check input proof session) =
+Makes name rows (Check input proof session drat progress) =
     (name ≡ codes "check") × NamesFile rows (codes "INPUT") (Some input) × NamesFile rows (codes "PROOF") (Some proof)
-    × NamesFlag rows (codes "session") session
+    × NamesFlag rows (codes "session") session × NamesFlag rows (codes "drat") drat × NamesFlag rows (codes "progress") progress
 Makes name rows (Cubes input depth) =
     (name ≡ codes "cubes") × NamesFile rows (codes "INPUT") (Some input) × NamesNumberOr rows (codes "depth") 0 16 4 depth
     × NamesNothing rows (codes "cubes") × NamesNothing rows (codes "split") × NamesNothing rows (codes "on") × NamesNothing rows (codes "complete")
@@ -124,6 +124,10 @@ Makes name rows (Complete input list) =
     (name ≡ codes "cubes") × NamesFile rows (codes "INPUT") (Some input) × NamesFile rows (codes "complete") (Some list)
     × NamesNothing rows (codes "depth") × NamesNothing rows (codes "cubes") × NamesNothing rows (codes "split") × NamesNothing rows (codes "on")
     × NamesNothing rows (codes "look")
+Makes name rows (Decide input proof limit progress stats printing binary) =
+    (name ≡ codes "decide") × NamesFile rows (codes "INPUT") (Some input) × NamesAnyNumber rows (codes "limit") 1 1000000000 limit
+    × NamesFile rows (codes "PROOF") proof × NamesFlag rows (codes "progress") progress × NamesFlag rows (codes "stats") stats
+    × NamesPrinting rows printing × NamesFlag rows (codes "binary") binary
 Makes name rows (Solve input cubes proof options) =
     (name ≡ codes "solve") × NamesFile rows (codes "INPUT") (Some input) × NamesFile rows (codes "cubes") cubes
     × NamesFile rows (codes "PROOF") proof × NamesOptions Here rows options
@@ -138,22 +142,25 @@ Makes name rows (Drill input seed turns) =
     × NamesNumber rows (codes "turns") 0 100000 turns
 Makes name rows (Leaf input cubes leaf) =
     (name ≡ codes "leaf") × NamesFile rows (codes "INPUT") (Some input) × NamesFile rows (codes "cubes") (Some cubes) × NamesLeaf rows leaf
-Makes name rows (Refute input cubes leaf to limit fragment printing binary) =
+Makes name rows (Refute input cubes leaf to grow limit fragment printing binary) =
     (name ≡ codes "refute") × NamesFile rows (codes "INPUT") (Some input) × NamesFile rows (codes "cubes") (Some cubes) × NamesLeaf rows leaf
-    × NamesAnyNumber rows (codes "to") 1 (2 ^ 32 - 1) to × NamesNumber rows (codes "limit") 1 (2 ^ 47) limit × NamesFile rows (codes "FRAGMENT") fragment × NamesPrinting rows printing
-    × NamesFlag rows (codes "binary") binary
+    × NamesAnyNumber rows (codes "to") 1 (2 ^ 32 - 1) to × NamesFlag rows (codes "grow") grow × NamesNumber rows (codes "limit") 1 (2 ^ 47) limit
+    × NamesFile rows (codes "FRAGMENT") fragment × NamesPrinting rows printing × NamesFlag rows (codes "binary") binary
 Makes name rows (Join input cubes proof fragments printing binary) =
     (name ≡ codes "join") × NamesFile rows (codes "INPUT") (Some input) × NamesFile rows (codes "cubes") (Some cubes)
     × NamesJoined rows proof fragments.items × NamesPrinting rows printing × NamesFlag rows (codes "binary") binary
-Makes name rows (Lift input cubes leaf to lidrup proof fragment binary) =
+Makes name rows (Lift input cubes leaf to lidrup drat proof fragment binary) =
     (name ≡ codes "lift") × NamesFile rows (codes "INPUT") (Some input) × NamesFile rows (codes "cubes") (Some cubes)
     × NamesAnyNumber rows (codes "leaf") 1 (2 ^ 32 - 1) leaf × NamesAnyNumber rows (codes "to") 1 (2 ^ 32 - 1) to × NamesFlag rows (codes "lidrup") lidrup
-    × NamesFile rows (codes "PROOF") (Some proof) × NamesFile rows (codes "FRAGMENT") (Some fragment) × NamesFlag rows (codes "binary") binary
+    × NamesFlag rows (codes "drat") drat × NamesFile rows (codes "PROOF") (Some proof) × NamesFile rows (codes "FRAGMENT") (Some fragment) × NamesFlag rows (codes "binary") binary
 Makes name rows (Model input output) =
     (name ≡ codes "model") × NamesFile rows (codes "INPUT") (Some input) × NamesFile rows (codes "FILE") (Some output)
 Makes name rows (Trim input proof out binary) =
     (name ≡ codes "trim") × NamesFile rows (codes "INPUT") (Some input) × NamesFile rows (codes "PROOF") (Some proof) × NamesFile rows (codes "OUT") (Some out)
     × NamesFlag rows (codes "binary") binary
+Makes name rows (Elaborate input drat lrat progress binary) =
+    (name ≡ codes "elaborate") × NamesFile rows (codes "INPUT") (Some input) × NamesFile rows (codes "DRAT") (Some drat) × NamesFile rows (codes "LRAT") (Some lrat)
+    × NamesFlag rows (codes "progress") progress × NamesFlag rows (codes "binary") binary
 Makes name rows (Receipt input cubes log receipt) =
     (name ≡ codes "receipt") × NamesFile rows (codes "INPUT") (Some input) × NamesFile rows (codes "cubes") (Some cubes)
     × NamesFile rows (codes "LOG") (Some log) × NamesFile rows (codes "RECEIPT") (Some receipt)
@@ -213,28 +220,30 @@ IsLeafNumber leaf = (1 ≤ leaf) × (leaf ≤ 2 ^ 32 - 1)
 abbrev pub IsVariable : ℕ → Type 0
 IsVariable variable = (1 ≤ variable) × (variable ≤ 2 ^ 31 - 1)
 
--- a number's property: it is a limit of lemmas of a query
-abbrev pub IsSessionLimit : ℕ → Type 0
-IsSessionLimit limit = (1 ≤ limit) × (limit ≤ 1000000000)
+-- a number's property: it is a limit of lemmas of a search
+abbrev pub IsLemmaLimit : ℕ → Type 0
+IsLemmaLimit limit = (1 ≤ limit) × (limit ≤ 1000000000)
 
 -- the numbers of a request are in their ranges
 abbrev pub IsInRange : Request → Type 0
-IsInRange (Check input proof session) = ⊤
+IsInRange (Check input proof session drat progress) = ⊤
 IsInRange (Cubes input depth) = depth ≤ 16
 IsInRange (Look input leaves) = (1 ≤ leaves) × (leaves ≤ 65536)
 IsInRange (Split input cubes leaf on) = IsLeafNumber leaf × IfSome on IsVariable
 IsInRange (SplitByLook input cubes leaf) = IsLeafNumber leaf
 IsInRange (Complete input list) = ⊤
+IsInRange (Decide input proof limit progress stats printing binary) = IfSome limit IsLemmaLimit
 IsInRange (Solve input cubes proof options) = AreOptions options
 IsInRange (Serve port input cubes proof options) = IsPort port × AreOptions options
 IsInRange (Work port input proof options) = IsPort port × AreOptions options
 IsInRange (Drill input seed turns) = turns ≤ 100000
 IsInRange (Leaf input cubes leaf) = IsLeafNumber leaf
-IsInRange (Refute input cubes leaf to limit fragment printing binary) = IsLeafNumber leaf × IfSome to IsLeafNumber × (1 ≤ limit) × (limit ≤ 2 ^ 47)
+IsInRange (Refute input cubes leaf to grow limit fragment printing binary) = IsLeafNumber leaf × IfSome to IsLeafNumber × (1 ≤ limit) × (limit ≤ 2 ^ 47)
 IsInRange (Join input cubes proof fragments printing binary) = 1 ≤ length fragments.items
-IsInRange (Lift input cubes leaf to lidrup proof fragment binary) = IfSome leaf IsLeafNumber × IfSome to IsLeafNumber
+IsInRange (Lift input cubes leaf to lidrup drat proof fragment binary) = IfSome leaf IsLeafNumber × IfSome to IsLeafNumber
 IsInRange (Model input output) = ⊤
 IsInRange (Trim input proof out binary) = ⊤
+IsInRange (Elaborate input drat lrat progress binary) = ⊤
 IsInRange (Receipt input cubes log receipt) = ⊤
 IsInRange (Cover input cubes receipts quiet) = 1 ≤ length receipts.items
-IsInRange (Session input proof limit witness) = IfSome limit IsSessionLimit
+IsInRange (Session input proof limit witness) = IfSome limit IsLemmaLimit

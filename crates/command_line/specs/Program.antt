@@ -34,11 +34,11 @@ with_leaf a = with_rule (with_rule a (needed_file_rule (codes "cubes"))) (needed
 abbrev pub large_app : Text → App
 large_app name = with_rule (new_app name) (long_flag_rule (codes "large"))
 
--- `check [--large] [--session] INPUT PROOF`
+-- `check [--large] [--session] [--drat] [--progress] INPUT PROOF`
 abbrev pub check_app : App
 check_app =
-    with_rule (with_rule (with_rule (large_app (codes "check")) (long_flag_rule (codes "session"))) (file_rule (codes "INPUT") true))
-    (file_rule (codes "PROOF") true)
+    with_rule (with_rule (with_rule (with_rule (with_rule (large_app (codes "check")) (long_flag_rule (codes "session"))) (long_flag_rule (codes "drat")))
+    (long_flag_rule (codes "progress"))) (file_rule (codes "INPUT") true)) (file_rule (codes "PROOF") true)
 
 -- `cubes [--large] [--depth D] [--look N] [--cubes FILE] [--split I] [--on V] [--complete FILE] INPUT`: D from 0 to 16, N from 1 to 65,536,
 -- I from 1 to 4,294,967,295, and V from 1 to 2 ^ 31 - 1
@@ -47,6 +47,13 @@ cubes_app =
     with_rule (with_rule (with_rule (with_rule (with_rule (with_rule (with_rule (large_app (codes "cubes")) (any_number_rule (codes "depth") 0 16))
     (any_number_rule (codes "look") 1 65536)) (named_file_rule (codes "cubes"))) (any_number_rule (codes "split") 1 (2 ^ 32 - 1)))
     (any_number_rule (codes "on") 1 (2 ^ 31 - 1))) (named_file_rule (codes "complete"))) (file_rule (codes "INPUT") true)
+
+-- `decide [--large] [--limit L] [--progress] [--stats] [--binary] [-q] [-n] INPUT [PROOF]`: L from 1 to 1,000,000,000
+abbrev pub decide_app : App
+decide_app =
+    with_rule (with_rule (with_printing (with_binary (with_rule (with_rule (with_rule (large_app (codes "decide"))
+    (any_number_rule (codes "limit") 1 1000000000)) (long_flag_rule (codes "progress"))) (long_flag_rule (codes "stats")))))
+    (file_rule (codes "INPUT") true)) (file_rule (codes "PROOF") false)
 
 -- `solve [--large] [--progress]`, and the words of a search and of its files: D from 0 to 16, by default 4, and L by default 100,000
 abbrev pub solve_app : App
@@ -79,12 +86,12 @@ drill_app =
 abbrev pub leaf_app : App
 leaf_app = with_rule (with_leaf (large_app (codes "leaf"))) (file_rule (codes "INPUT") true)
 
--- `refute [--large] --cubes FILE --leaf I [--to J] [--limit L] [--binary] [-q] [-n] INPUT [FRAGMENT]`: I and J from 1 to 4,294,967,295, and
--- L from 1 to 140,737,488,355,328 = 2^47, which is the default
+-- `refute [--large] --cubes FILE --leaf I [--to J] [--grow] [--limit L] [--binary] [-q] [-n] INPUT [FRAGMENT]`: I and J from 1 to
+-- 4,294,967,295, and L from 1 to 140,737,488,355,328 = 2^47, which is the default
 abbrev pub refute_app : App
 refute_app =
-    with_rule (with_rule (with_printing (with_binary (with_rule (with_rule (with_leaf (large_app (codes "refute"))) (any_number_rule (codes "to") 1 (2 ^ 32 - 1)))
-    (number_rule (codes "limit") 1 (2 ^ 47) (codes "140737488355328")))))
+    with_rule (with_rule (with_printing (with_binary (with_rule (with_rule (with_rule (with_leaf (large_app (codes "refute"))) (any_number_rule (codes "to") 1 (2 ^ 32 - 1)))
+    (long_flag_rule (codes "grow"))) (number_rule (codes "limit") 1 (2 ^ 47) (codes "140737488355328")))))
     (file_rule (codes "INPUT") true)) (file_rule (codes "FRAGMENT") false)
 
 -- `join [--large] [--dry] --cubes FILE [--binary] [-q] [-n] INPUT NAME..`, with one name or more
@@ -93,11 +100,11 @@ join_app =
     with_rule (with_rule (with_printing (with_binary (with_rule (with_rule (large_app (codes "join")) (long_flag_rule (codes "dry"))) (needed_file_rule (codes "cubes")))))
     (file_rule (codes "INPUT") true)) (files_rule (codes "NAME"))
 
--- `lift [--large] --cubes FILE [--leaf I] [--to J] [--lidrup] [--binary] INPUT PROOF FRAGMENT`: I and J from 1 to 4,294,967,295
+-- `lift [--large] --cubes FILE [--leaf I] [--to J] [--lidrup] [--drat] [--binary] INPUT PROOF FRAGMENT`: I and J from 1 to 4,294,967,295
 abbrev pub lift_app : App
 lift_app =
-    with_rule (with_rule (with_rule (with_binary (with_rule (with_rule (with_rule (with_rule (large_app (codes "lift")) (needed_file_rule (codes "cubes")))
-    (any_number_rule (codes "leaf") 1 (2 ^ 32 - 1))) (any_number_rule (codes "to") 1 (2 ^ 32 - 1))) (long_flag_rule (codes "lidrup"))))
+    with_rule (with_rule (with_rule (with_binary (with_rule (with_rule (with_rule (with_rule (with_rule (large_app (codes "lift")) (needed_file_rule (codes "cubes")))
+    (any_number_rule (codes "leaf") 1 (2 ^ 32 - 1))) (any_number_rule (codes "to") 1 (2 ^ 32 - 1))) (long_flag_rule (codes "lidrup"))) (long_flag_rule (codes "drat"))))
     (file_rule (codes "INPUT") true)) (file_rule (codes "PROOF") true)) (file_rule (codes "FRAGMENT") true)
 
 -- `model [--large] INPUT FILE`
@@ -108,6 +115,12 @@ model_app = with_rule (with_rule (large_app (codes "model")) (file_rule (codes "
 abbrev pub trim_app : App
 trim_app =
     with_rule (with_rule (with_rule (with_binary (large_app (codes "trim"))) (file_rule (codes "INPUT") true)) (file_rule (codes "PROOF") true)) (file_rule (codes "OUT") true)
+
+-- `elaborate [--large] [--progress] [--binary] INPUT DRAT LRAT`
+abbrev pub elaborate_app : App
+elaborate_app =
+    with_rule (with_rule (with_rule (with_binary (with_rule (large_app (codes "elaborate")) (long_flag_rule (codes "progress")))) (file_rule (codes "INPUT") true))
+    (file_rule (codes "DRAT") true)) (file_rule (codes "LRAT") true)
 
 -- `receipt --cubes FILE INPUT LOG RECEIPT`
 abbrev pub receipt_app : App
@@ -134,14 +147,14 @@ bare_program = on_top (λ s. record s { has_version = true; subcommand_required 
 -- with the commands on whole formulas
 abbrev pub with_formulas : App → App
 with_formulas a =
-    with_subcommand (with_subcommand (with_subcommand (with_subcommand (with_subcommand (with_subcommand a solve_app.top) check_app.top) cubes_app.top)
-    serve_app.top) work_app.top) drill_app.top
+    with_subcommand (with_subcommand (with_subcommand (with_subcommand (with_subcommand (with_subcommand (with_subcommand a decide_app.top) solve_app.top)
+    check_app.top) cubes_app.top) serve_app.top) work_app.top) drill_app.top
 
 -- with the commands on leaves, and on what solvers write
 abbrev pub with_leaves : App → App
 with_leaves a =
-    with_subcommand (with_subcommand (with_subcommand (with_subcommand (with_subcommand (with_subcommand a leaf_app.top) refute_app.top) join_app.top) lift_app.top)
-    model_app.top) trim_app.top
+    with_subcommand (with_subcommand (with_subcommand (with_subcommand (with_subcommand (with_subcommand (with_subcommand a leaf_app.top) refute_app.top) join_app.top)
+    lift_app.top) model_app.top) trim_app.top) elaborate_app.top
 
 -- with the commands on receipts, and that of a session
 abbrev pub with_receipts : App → App

@@ -3,7 +3,9 @@
 pub(crate) mod check;
 pub(crate) mod cover;
 pub(crate) mod cubes;
+pub(crate) mod decide;
 pub(crate) mod drill;
+pub(crate) mod elaborate;
 pub(crate) mod join;
 pub(crate) mod leaf;
 mod leaf_words;

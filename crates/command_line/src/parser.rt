@@ -11,8 +11,8 @@ ghost use Rattle.option_table.specs.Rules.{app_of_program};
 
 use crate::commands::words::is_given;
 use crate::commands::{
-    check, cover, cubes, drill, join, leaf, lift, model, receipt, refute, serve, session, solve,
-    trim, work,
+    check, cover, cubes, decide, drill, elaborate, join, leaf, lift, model, receipt, refute, serve,
+    session, solve, trim, work,
 };
 use crate::request::{Command, Request, UsageFault};
 use option_table::{Found, ProgramRules, Refusal, parse};
@@ -24,7 +24,7 @@ const VERSION: &str = "0.1.0 (rattle-kit-13b or 13f, logic dac8208d650f15bf)";
 /// What help says of the program, with three examples.
 const ABOUT: &str = concat!(
     "Decides propositional formulas, with proofs that anyone can check\n\n",
-    "  satcluster solve f.cnf f.lrat    decide f.cnf; a proof is written if nothing satisfies it\n",
+    "  satcluster decide f.cnf f.lrat   decide f.cnf; a proof is written if nothing satisfies it\n",
     "  satcluster check f.cnf f.lrat    check the proof of any solver\n",
     "  satcluster model f.cnf answer    check the assignment that a solver printed",
 );
@@ -56,6 +56,7 @@ fn given_of<'a>(alloc: Global, words: &'a [&'a str]) -> Result<Found<'a>, Refusa
     ensures refused { IfErr result (IsRefusalOf program (map (λ w. w.now) words.now)) }
 {
     let commands = [
+        decide::rules(),
         solve::rules(),
         check::rules(),
         cubes::rules(),
@@ -68,6 +69,7 @@ fn given_of<'a>(alloc: Global, words: &'a [&'a str]) -> Result<Found<'a>, Refusa
         lift::rules(),
         model::rules(),
         trim::rules(),
+        elaborate::rules(),
         receipt::rules(),
         cover::rules(),
         session::rules(),
@@ -101,6 +103,7 @@ fn request_of<'a>(alloc: Global, given: &Found<'a>) -> Result<Option<Request<'a>
     ensures range { IfOk result (λ found. IfSome found IsInRange) }
 {
     match given.name() {
+        "decide" => Ok(decide::asked(given)),
         "solve" => Ok(solve::asked(given)),
         "check" => Ok(check::asked(given)),
         "cubes" => Ok(cubes::asked(given)),
@@ -113,6 +116,7 @@ fn request_of<'a>(alloc: Global, given: &Found<'a>) -> Result<Option<Request<'a>
         "lift" => Ok(lift::asked(given)),
         "model" => Ok(model::asked(given)),
         "trim" => Ok(trim::asked(given)),
+        "elaborate" => Ok(elaborate::asked(given)),
         "receipt" => Ok(receipt::asked(given)),
         "cover" => cover::asked(alloc, given),
         "session" => Ok(session::asked(given)),

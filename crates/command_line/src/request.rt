@@ -11,18 +11,34 @@ use thiserror::Error;
 /// A request: what is to be done, and with which files.
 #[derive(Drop, PartialEq, Eq)]
 pub enum Request<'a> {
-    /// Decide a formula. It is split by the cubes of a file if one is named, and the proof is written to a file if one is named.
+    /// Decide a formula by one search, which learns at most `limit` lemmas, from 1 to 1,000,000,000, or any number. The proof is written to a
+    /// file if one is named. Progress is shown on standard error, and what the search has done is printed, if these flags are given.
+    Decide {
+        input: &'a str,
+        proof: Option<&'a str>,
+        limit: Option<u64>,
+        progress: bool,
+        stats: bool,
+        printing: Printing,
+        binary: bool,
+    },
+    /// Decide a formula by workers of this process. It is split by the cubes of a file if one is named, and the proof is written to a file
+    /// if one is named.
     Solve {
         input: &'a str,
         cubes: Option<&'a str>,
         proof: Option<&'a str>,
         options: Options,
     },
-    /// Check a proof of a formula; or the proof of a session if `session` is true: then the input is what was sent in it.
+    /// Check a proof of a formula; or the proof of a session if `session` is true: then the input is what was sent in it. If `drat` is true,
+    /// it is a DRAT proof of a formula; the run refuses both. If `progress` is true, the run tells how far a DRAT proof was elaborated, and
+    /// refuses other proofs.
     Check {
         input: &'a str,
         proof: &'a str,
         session: bool,
+        drat: bool,
+        progress: bool,
     },
     /// Split a formula into cubes of at most `depth` literals, from 0 to 16.
     Cubes {
@@ -81,12 +97,14 @@ pub enum Request<'a> {
         leaf: u32,
     },
     /// Search under a leaf, by its number among the cubes of a file, from 1 to 4,294,967,295, or under each leaf from it to `to`, in turn.
-    /// A search learns at most `limit` lemmas, from 1 to 2^47. The fragment is written to a file if one is named.
+    /// A search learns at most `limit` lemmas, from 1 to 2^47. The fragment is written to a file if one is named; with `grow`, while the
+    /// leaves are searched.
     Refute {
         input: &'a str,
         cubes: &'a str,
         leaf: u32,
         to: Option<u32>,
+        grow: bool,
         limit: u64,
         fragment: Option<&'a str>,
         printing: Printing,
@@ -103,14 +121,15 @@ pub enum Request<'a> {
         binary: bool,
     },
     /// Make a fragment of INPUT and write it to a file: from a proof of the formula of a leaf, by its number among the cubes of a file,
-    /// from 1 to 4,294,967,295; or from a LIDRUP text for all of these cubes, or for those of the leaves from `leaf` to `to`. Any of
-    /// `leaf`, `to` and `lidrup` may be given here; the run refuses what does not go together.
+    /// from 1 to 4,294,967,295, which is a DRAT proof if `drat`; or from a LIDRUP text for all of these cubes, or for those of the leaves
+    /// from `leaf` to `to`. Any of `leaf`, `to`, `lidrup` and `drat` may be given here; the run refuses what does not go together.
     Lift {
         input: &'a str,
         cubes: &'a str,
         leaf: Option<u32>,
         to: Option<u32>,
         lidrup: bool,
+        drat: bool,
         proof: &'a str,
         fragment: &'a str,
         binary: bool,
@@ -125,6 +144,14 @@ pub enum Request<'a> {
         input: &'a str,
         proof: &'a str,
         out: &'a str,
+        binary: bool,
+    },
+    /// Make an LRAT proof of a DRAT proof, and write it to a file. If `progress` is true, the run tells how far it has come.
+    Elaborate {
+        input: &'a str,
+        drat: &'a str,
+        lrat: &'a str,
+        progress: bool,
         binary: bool,
     },
     /// Check a log over the formula, and write to a file which of the log's clauses close leaves.

@@ -4,12 +4,16 @@ mod ClosedLemmas
 mod CoreLemmas
 mod CoverLemmas
 mod CutLemmas
+mod DecideLemmas
+mod ElaborateLemmas
 mod EndingLemmas
 mod EventLemmas
 mod FeedLemmas
+mod IdentityLemmas
 mod JoinLemmas
 mod KnownLemmas
 mod LiftLemmas
+mod LiftDratLemmas
 mod LineLemmas
 mod ListedLemmas
 mod ListingLemmas

@@ -123,7 +123,7 @@ some_behind bytes [] empty is no_byte e = let clash : false ≡ true = sym no_by
 some_behind [] (x ∷ xs) empty is no_byte e = cc
 some_behind (y ∷ ys) (x ∷ xs) empty is no_byte e = cc
 
-fails_is : (L : Limits) (fault : DimacsFault) (text : List ℕ) → Fails no_input_memory fault (parse_within L text) → fault ≢ no_input_memory → parse_within L text ≡ Err fault
+pub fails_is : (L : Limits) (fault : DimacsFault) (text : List ℕ) → Fails no_input_memory fault (parse_within L text) → fault ≢ no_input_memory → parse_within L text ≡ Err fault
 fails_is L fault text (inl e) other = absurd (other e)
 fails_is L fault text (inr e) other = e
 

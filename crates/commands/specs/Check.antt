@@ -1,8 +1,8 @@
 -- What a check of the files of an input and a proof reports.
 use Rattle.std.specs.Prelude.{◌≡◌, ℕ, List}
 use Rattle.dimacs.specs.logic.Limits.{Limits}
-use Rattle.node_main.specs.ProofChecks.{IsCheckReport}
-use Rattle.node_main.specs.Truth.{SpellsUnsatisfiable}
+use Rattle.proof_check.specs.ProofChecks.{IsCheckReport}
+use Rattle.proof_check.specs.Truth.{SpellsUnsatisfiable}
 use Rattle.reports.specs.declared.report.Report.{Report}
 
 -- what a check of the bytes of an input, within the limits, and of a proof reports: status 0 if and only if the proof is accepted, and then

@@ -1,10 +1,14 @@
 pub mod FormulaTree
 pub mod Check
 pub mod Cover
+pub mod Decide
+pub mod Elaborate
 pub mod Feed
 pub mod Join
+pub mod Identity
 pub mod Known
 pub mod Lift
+pub mod LiftDrat
 pub mod Names
 pub mod Outcome
 pub mod Receipts

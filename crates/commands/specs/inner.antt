@@ -1,6 +1,7 @@
 pub mod SessionLoop
 pub mod FormulaTree
 pub mod Cover
+pub mod Elaborate
 pub mod EventSource
 pub mod Feed
 pub mod Greatest

@@ -1,4 +1,4 @@
-//! Writes a packed text to a temporary file that is renamed to the path; or, if that cannot be done, into the file itself.
+//! Writes a packed text to a temporary file that is renamed to the path; or, where no regular file is, into what is there.
 
 ghost use Rattle.std.specs.Prelude.{◌≡◌, ◌++◌, ℕ, Bool, List, [], IfOk, IfErr, IsTrue, OnOk, OnErr};
 ghost use Rattle.commands.specs.Refusals.{IsRefusedAs};
@@ -74,8 +74,8 @@ fn write_by<D: Drafts>(
     }
 }
 
-/// Writes a text to the path of a target: to a temporary file beside it that is renamed, or, if that cannot be made or renamed, into the
-/// file itself. It errs if neither can be done, a write fails, or memory runs out.
+/// Writes a text to the path of a target: to a temporary file beside it that is renamed, or, if the path leads to a device or a pipe, into
+/// that. It errs if neither can be done, a write fails, or memory runs out.
 pub fn write_text<D: Drafts>(
     disk: &mut D,
     target: Target<'_>,

@@ -6,13 +6,13 @@ ghost use Rattle.commands.specs.inner.Feed.{Extends};
 ghost use Rattle.commands.specs.Known.{HoldsOf};
 ghost use Rattle.commands.specs.Refusals.{IsOneOf};
 ghost use Rattle.dimacs.specs.logic.Limits.{Limits};
-ghost use Rattle.node_main.specs.ProofChecks.{HasTaken};
+ghost use Rattle.proof_check.specs.ProofChecks.{HasTaken};
 
 use crate::disk::Disk;
 use crate::feed_loop::{Feeds, feed_all};
 use crate::whole_source::read_formula;
 use dimacs::Limits;
-use node_main::ProofCheck;
+use proof_check::ProofCheck;
 use reports::{Refusal, Report};
 
 impl Feeds for ProofCheck {

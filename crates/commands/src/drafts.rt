@@ -21,7 +21,7 @@ pub struct Target<'a> {
 pub enum Way {
     /// A temporary file beside it, renamed once it is whole.
     Beside,
-    /// The file itself is truncated and written.
+    /// What is at the path is written itself, if it is no regular file: a device or a pipe.
     InPlace,
 }
 
@@ -42,6 +42,11 @@ pub trait Drafts: Disk {
     /// Whether two paths lead to the same file; if one of them leads to no file yet, whether the paths are equal.
     fn is_same(&self, path: &str, other: &str) -> bool
         ensures { result ≡ false → apart self.now path.now other.now };
+
+    /// Errs if no text can be written to a path, as far as this can be told before there is one: no temporary file can be made beside it,
+    /// and a regular file is there, or nothing.
+    fn test(&self, path: &str) -> Result<(), Refusal>
+        ensures refused { IfErr result (IsRefusedAs Refusal.Writing) };
 
     /// Creates a file that is to be written to a path in the given way; `None` if it cannot be created so.
     fn begin(&self, path: &str, way: Way) -> Result<Option<Self::Draft>, Refusal>

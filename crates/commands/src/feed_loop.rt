@@ -6,8 +6,13 @@ ghost use Rattle.commands.specs.Refusals.{IsRefusedAs, IsWanting};
 ghost use Rattle.reports.specs.declared.refusal.Refusal.{Refusal};
 
 use crate::piece_reader::Pieces;
+use packed_text::PackedText;
 use reports::Refusal;
+use std::alloc::Global;
 use std::io::Read;
+
+/// How many bytes of a packed text are unpacked and fed at a time.
+const PIECE: usize = 65_536;
 
 /// A taker of the bytes of a file, which come piece by piece.
 pub trait Feeds {
@@ -80,4 +85,23 @@ pub fn feed_all<S: Read + Drop, T: Feeds>(
         Fed::Whole => Ok(()),
         Fed::Unread(refusal) => Err(refusal),
     }
+}
+
+/// Unpacks a text, `PIECE` bytes at a time, and feeds it to the taker. It errs if memory runs out; any other error is one of the taker.
+pub(crate) fn feed_packed<T: Feeds>(
+    alloc: Global,
+    text: &PackedText,
+    taker: &mut T,
+) -> Result<(), Refusal>
+    ensures fed { OnOk result (T.took taker.old taker.new text.now) }
+    ensures refused { IfErr result (λ f. IsWanting f ⊎ T.fails f) }
+{
+    for i in 0..text.len() / PIECE + 1 {
+        let piece = match text.read(alloc, PIECE * i, PIECE) {
+            Ok(piece) => piece,
+            Err(_) => return Err(Refusal::NoMemory),
+        };
+        taker.feed(piece.as_slice())?;
+    }
+    Ok(())
 }

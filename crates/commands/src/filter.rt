@@ -8,9 +8,10 @@ ghost use Rattle.commands.specs.declared.filter.Ending.{Ending};
 ghost use Rattle.commands.specs.inner.Filter.{HasFiltered, IsFiltered, Settles};
 
 use crate::drafts::Drafts;
-use crate::feed_loop::{Feeds, feed_all};
+use crate::feed_loop::{Feeds, feed_all, feed_packed};
 use crate::part_file::{Part, append, keep, remove};
 use crate::piece_reader::Pieces;
+use packed_text::PackedText;
 use reports::{Refusal, Report};
 use std::alloc::Global;
 
@@ -192,6 +193,49 @@ pub(crate) fn run_filter<D: Drafts, P: Filter + Drop>(
     ensures refused { IfErr result (λ f. IsRefusedAs pieces.refusal f ⊎ (f ≡ Refusal.Writing)) }
 {
     let Filtered { part, taker, read } = feed_part(disk, pieces, part, taker);
+    match read {
+        Ok(()) => finish(disk, part, taker),
+        Err(refusal) => {
+            remove(disk, part);
+            Err(refusal)
+        }
+    }
+}
+
+/// Feeds a packed text to a filter, to its end or to the first write that fails, and appends to the file what the filter hands out.
+fn feed_part_packed<D: Drafts, P: Filter>(
+    disk: &D,
+    text: &PackedText,
+    part: Part<D::Draft>,
+    taker: P,
+) -> Filtered<D::Draft, P>
+    ensures poured { OnOk result.read (HasFiltered D.made P.moved part result.part taker result.taker text.now) }
+    ensures refused { IfErr result.read (IsRefusedAs Refusal.Writing) }
+{
+    let mut run = FilterRun { disk, part, taker };
+    let read = feed_packed(disk.alloc(), text, &mut run);
+    let FilterRun {
+        disk: _,
+        part,
+        taker,
+    } = run;
+    Filtered { part, taker, read }
+}
+
+/// Runs a filter over a packed text, and answers its report. The written file is kept if the filter ends so and each write succeeded, and
+/// else removed.
+pub(crate) fn run_filter_packed<D: Drafts, P: Filter + Drop>(
+    disk: &mut D,
+    text: &PackedText,
+    part: Part<D::Draft>,
+    taker: P,
+) -> Result<Report, Refusal>
+    ensures poured { (binary : Bool) (path : List ℕ) → IsPart D.made binary path [] part
+        → IfOk result (IsFiltered P.moved P.ended D.kept disk.old disk.new binary path taker text.now) }
+    ensures left { OnErr result (disk.new ≡ disk.old) }
+    ensures refused { IfErr result (IsRefusedAs Refusal.Writing) }
+{
+    let Filtered { part, taker, read } = feed_part_packed(disk, text, part, taker);
     match read {
         Ok(()) => finish(disk, part, taker),
         Err(refusal) => {

@@ -54,9 +54,9 @@ pub enum Lifted {
 }
 
 /// The lift of a proof of the formula of a leaf, and the leaf's number, from 1.
-struct LeafLift {
-    lift: FormLift,
-    leaf: u64,
+pub(crate) struct LeafLift {
+    pub(crate) lift: FormLift,
+    pub(crate) leaf: u64,
 }
 
 impl Drop for LeafLift {
@@ -89,7 +89,7 @@ fn faulty(alloc: Global, fault: CheckFault, is_binary: bool) -> Result<Report, R
 }
 
 /// Reports, with status 1, that no leaf has the number.
-fn no_leaf(alloc: Global) -> Result<Report, Refusal>
+pub(crate) fn no_leaf(alloc: Global) -> Result<Report, Refusal>
     ensures text { IfOk result (Prints 1 no_leaf_text) }
     ensures refused { IfErr result IsWanting }
 {
@@ -206,10 +206,8 @@ impl Filter for BlockLift {
     }
 }
 
-/// Creates the file of the log. It errs if its path leads to one of the three files that are read, or if it cannot be created beside that
-/// path.
-fn begin_log<D: Drafts>(disk: &D, files: &LiftFiles<'_>) -> Result<Part<D::Draft>, Refusal>
-    ensures begins { IfOk result (Begins D.made files.now.log.binary files.now.log.path.now) }
+/// Errs if the path of the log leads to one of the three files that are read.
+fn test_apart<D: Drafts>(disk: &D, files: &LiftFiles<'_>) -> Result<(), Refusal>
     ensures apart { OnOk result (IsApart D.apart disk.now files.now) }
     ensures refused { IfErr result (IsRefusedAs Refusal.Writing) }
 {
@@ -220,7 +218,30 @@ fn begin_log<D: Drafts>(disk: &D, files: &LiftFiles<'_>) -> Result<Part<D::Draft
     {
         return Err(Refusal::Writing);
     }
-    match disk.begin(path, Way::Beside)? {
+    Ok(())
+}
+
+/// Errs if the path of the log leads to one of the three files that are read, or if no log can be written there, as far as this can be told
+/// before there is one.
+pub(crate) fn test_log<D: Drafts>(disk: &D, files: &LiftFiles<'_>) -> Result<(), Refusal>
+    ensures refused { IfErr result (IsRefusedAs Refusal.Writing) }
+{
+    test_apart(disk, files)?;
+    disk.test(files.log.path)
+}
+
+/// Creates the file of the log. It errs if its path leads to one of the three files that are read, or if it cannot be created beside that
+/// path.
+pub(crate) fn begin_log<D: Drafts>(
+    disk: &D,
+    files: &LiftFiles<'_>,
+) -> Result<Part<D::Draft>, Refusal>
+    ensures begins { IfOk result (Begins D.made files.now.log.binary files.now.log.path.now) }
+    ensures apart { OnOk result (IsApart D.apart disk.now files.now) }
+    ensures refused { IfErr result (IsRefusedAs Refusal.Writing) }
+{
+    test_apart(disk, files)?;
+    match disk.begin(files.log.path, Way::Beside)? {
         Some(draft) => Ok(part_of(disk, draft, files.log.binary)),
         None => Err(Refusal::Writing),
     }
@@ -245,7 +266,11 @@ fn lift_proof<D: Drafts, P: Filter + Drop>(
 }
 
 /// A lift of a proof of the leaf of this number, from 1, that has taken no byte; `None` if there is no such leaf.
-fn begin_leaf(alloc: Global, split: Split, leaf: u64) -> Result<Option<FormLift>, Refusal>
+pub(crate) fn begin_leaf(
+    alloc: Global,
+    split: Split,
+    leaf: u64,
+) -> Result<Option<FormLift>, Refusal>
     ensures begins { IfOk result (BeginsFormLeaf split.formula split.tree leaf) }
     ensures refused { IfErr result IsWanting }
 {

@@ -189,7 +189,7 @@ fn read_and_trim<D: Drafts>(
 
 /// Writes the trimmed proof to the output's file; without a proof, after a fault, no file is
 /// touched.
-fn write_out<D: Drafts>(
+pub(crate) fn write_out<D: Drafts>(
     disk: &mut D,
     out: Target<'_>,
     proof: &Option<PackedText>,

@@ -12,7 +12,7 @@ use Rattle.conflict_analysis.specs.declared.lemma.Lemma.{Lemma}
 use Rattle.conflict_analysis.specs.declared.first_uip.TrailWalk.{TrailWalk}
 use Rattle.conflict_analysis.specs.BuiltTrails.{AreBuilt}
 use Rattle.conflict_analysis.specs.inner.Seen.{met}
-use Rattle.conflict_analysis.specs.inner.TrailWalk.{AreMarked, IsUnderWay, IsWalk, is_lower, is_present, waiting}
+use Rattle.conflict_analysis.specs.inner.TrailWalk.{AreMarked, ArePlaced, IsUnderWay, IsWalk, is_lower, is_present, waiting}
 use Rattle.conflict_analysis.proofs.EntryLemmas.{one_if, waiting_cons}
 use Rattle.conflict_analysis.proofs.MetLiteralLemmas.{met_set}
 use Rattle.conflict_analysis.proofs.EntryStepLemmas.{past_unmet}
@@ -50,6 +50,16 @@ marks_more es f g blocks v p apart wide here is grown marked k d lt h =
           or_right (met blocks (k / 8)) (eqb (k / 8) (p / 8)) (eq-eqb _ _ (ap (λ i. i / 8) q))
     ]
 
+-- one more is met, and its index is marked
+pub places_more : (es : List Assigned) (f g : ℕ → Bool) (places : List Bool) (v p : ℕ) → IsDistinct eqb (variables es) → length es ≤ length places → p < length es
+    → ((d : Assigned) → var_of (get_or es p d).literal ≡ v) → ((u : ℕ) → g u ≡ (f u || eqb u v)) → ArePlaced es f places → ArePlaced es g (set places p true)
+places_more es f g places v p apart whole here is grown placed k d lt h =
+    let room : p < length places = omega arith in
+    met_set places p k room ∙ elim (or_cases (f (var_of (get_or es k d).literal)) (eqb (var_of (get_or es k d).literal) v) (sym (grown (var_of (get_or es k d).literal)) ∙ h)) [
+      | inl t ↦ or_left (met places k) (eqb k p) (placed k d lt t)
+      | inr t ↦ or_right (met places k) (eqb k p) (eq-eqb _ _ (one_place es k p d apart lt here (eqb-true _ _ t ∙ sym (is d))))
+    ]
+
 -- ---- past entries that were not met
 waiting_past : (es : List Assigned) (f at : ℕ → Bool) (e : Assigned) → f (var_of e.literal) ≡ false → waiting f at (es ++ e ∷ []) ≡ waiting f at es
 waiting_past [] f at e new =
@@ -62,30 +72,41 @@ waiting_past (x ∷ xs) f at e new =
     let c = waiting_past xs f at e new in
     omega (arith, a, b, c)
 
+-- any entry
+abbrev pub default : Assigned
+default = record { literal = Pos 1; level = 0; reason = None }
+
+-- the walk that is left after an entry that was not met
+pub walk_past : (t : TrailValue) (w : TrailWalk) (i : ℕ) → i < length t.entries → met w.seen (var_of (get_or t.entries i default).literal) ≡ false
+    → IsWalk t (take (i + 1) t.entries) w → IsWalk t (take i t.entries) w
+walk_past t w i lt new walk =
+    let es = t.entries in
+    let more = take_more es i default lt in
+    record {
+      valid = walk.valid;
+      before = (drop i es, sym (take-append-drop i es));
+      room = walk.room;
+      level = walk.level;
+      counted = record {
+        opened = walk.counted.opened ∙ ap (waiting (met w.seen) (is_present es)) more ∙ waiting_past (take i es) (met w.seen) (is_present es) (get_or es i default) new;
+        remaining = walk.counted.remaining ∙ ap (waiting (met w.seen) (is_lower es)) more ∙ waiting_past (take i es) (met w.seen) (is_lower es) (get_or es i default) new;
+      };
+      listed = walk.listed;
+      again = walk.again;
+      wide = walk.wide;
+      marked = walk.marked;
+      whole = walk.whole;
+      placed = walk.placed;
+    }
+
+-- an entry whose index is not marked was not met
+pub unplaced : (t : TrailValue) (front : List Assigned) (w : TrailWalk) (i : ℕ) (d : Assigned) → IsWalk t front w → i < length t.entries → met w.places i ≡ false
+    → met w.seen (var_of (get_or t.entries i d).literal) ≡ false
+unplaced t front w i d walk lt unmarked = false_from_ne_true _ (λ h. both_ways (met w.places i) unmarked (walk.placed i d lt h))
+
 module _ (m : Clauses) (t : TrailValue) (built : AreBuilt (live_of m) [] t.entries) (w : TrailWalk) (lemma : Lemma) where
   abbrev es : List Assigned
   es = t.entries
-
-  abbrev default : Assigned
-  default = record { literal = Pos 1; level = 0; reason = None }
-
-  walk_past : (i : ℕ) → i < length es → met w.seen (var_of (get_or es i default).literal) ≡ false → IsWalk t (take (i + 1) es) w → IsWalk t (take i es) w
-  walk_past i lt new walk =
-      let more = take_more es i default lt in
-      record {
-        valid = walk.valid;
-        before = (drop i es, sym (take-append-drop i es));
-        room = walk.room;
-        level = walk.level;
-        counted = record {
-          opened = walk.counted.opened ∙ ap (waiting (met w.seen) (is_present es)) more ∙ waiting_past (take i es) (met w.seen) (is_present es) (get_or es i default) new;
-          remaining = walk.counted.remaining ∙ ap (waiting (met w.seen) (is_lower es)) more ∙ waiting_past (take i es) (met w.seen) (is_lower es) (get_or es i default) new;
-        };
-        listed = walk.listed;
-        again = walk.again;
-        wide = walk.wide;
-        marked = walk.marked;
-      }
 
   come_past : (n i j : ℕ) → j + n ≡ i → i ≤ length es → ((k : ℕ) → j ≤ k → k < i → met w.blocks (k / 8) ≡ false) → IsUnderWay (live_of m) t i w lemma → IsUnderWay (live_of m) t j w lemma
   come_past zero i j e le unmarked way = let is : i ≡ j = omega arith in subst (λ k. IsUnderWay (live_of m) t k w lemma) is way
@@ -96,7 +117,7 @@ module _ (m : Clauses) (t : TrailValue) (built : AreBuilt (live_of m) [] t.entri
       let here : IsUnderWay (live_of m) t (i1 + 1) w lemma = subst (λ k. IsUnderWay (live_of m) t k w lemma) is way in
       let new : met w.seen (var_of (get_or es i1 default).literal) ≡ false = false_from_ne_true _ (λ h. both_ways (met w.blocks (i1 / 8)) (unmarked i1 (omega arith) (omega arith)) (here.walk.marked i1 default lt h)) in
       come_past n i1 j refl (omega arith) (λ k a b. unmarked k a (omega arith))
-      (past_unmet m t i1 lt built default w w lemma here (walk_past i1 lt new here.walk) refl (λ _. refl) new refl)
+      (past_unmet m t i1 lt built default w w lemma here (walk_past t w i1 lt new here.walk) refl (λ _. refl) new refl)
 
   -- the walk comes down over blocks that are not marked
   pub skips_down : (i j : ℕ) → j ≤ i → i ≤ length es → ((k : ℕ) → j ≤ k → k < i → met w.blocks (k / 8) ≡ false) → IsUnderWay (live_of m) t i w lemma → IsUnderWay (live_of m) t j w lemma

@@ -1,5 +1,5 @@
 -- The walk's invariant is kept when it meets a literal.
-use Rattle.std.proofs.Common.{◌≡◌, ℕ, ◌+◌, ◌/◌, ◌<◌, ◌||◌, inl, inr, Bool, true, false, eqb, List, [], ◌∷◌, ◌++◌, length, get_or, set, ap, sym, ◌∙◌, subst, arith}
+use Rattle.std.proofs.Common.{◌≡◌, ℕ, ◌+◌, ◌/◌, ◌<◌, ◌≤◌, ◌||◌, inl, inr, Bool, true, false, eqb, List, [], ◌∷◌, ◌++◌, length, get_or, set, ap, sym, ◌∙◌, subst, arith}
 use Rattle.std.specs.List.{Contains}
 use Rattle.std.proofs.lemmas.Bool.{both_ways, or_left}
 use Rattle.std.proofs.lemmas.List.{length-set}
@@ -10,8 +10,8 @@ use Rattle.watches.specs.Trails.{TrailValue, holds}
 use Rattle.watches.specs.declared.trail.Assigned.{Assigned}
 use Rattle.conflict_analysis.specs.declared.first_uip.TrailWalk.{TrailWalk}
 use Rattle.conflict_analysis.specs.inner.Seen.{met}
-use Rattle.conflict_analysis.specs.inner.TrailWalk.{AreCounted, AreListed, AreMarked, HasMet, IsKnown, IsWalk}
-use Rattle.conflict_analysis.proofs.BlockLemmas.{marks_more}
+use Rattle.conflict_analysis.specs.inner.TrailWalk.{AreCounted, AreListed, AreMarked, ArePlaced, HasMet, IsKnown, IsWalk}
+use Rattle.conflict_analysis.proofs.BlockLemmas.{marks_more, places_more}
 use Rattle.conflict_analysis.proofs.MetLemmas.{met_none}
 use Rattle.conflict_analysis.proofs.MetLiteralLemmas.{met_set, lists, meets_present, meets_lower}
 use Rattle.conflict_analysis.proofs.TraceLemmas.{mark_one}
@@ -46,9 +46,12 @@ module _ (t : TrailValue) (front : List Assigned) (w : TrailWalk) (k : Literal) 
   marks : AreMarked t.entries (met after) (set w.blocks (p / 8) true)
   marks = marks_more t.entries (met w.seen) (met after) w.blocks (var_of k) p walk.valid.apart walk.wide inside (λ d. ap var_of (stands d) ∙ var_of-negation k) grown walk.marked
 
-  walks : (v : TrailWalk) → v.seen ≡ after → v.blocks ≡ set w.blocks (p / 8) true → v.present ≡ w.present → v.met.items ≡ w.met.items ++ var_of k ∷ [] → v.again.items ≡ w.again.items
+  placing : ArePlaced t.entries (met after) (set w.places p true)
+  placing = places_more t.entries (met w.seen) (met after) w.places (var_of k) p walk.valid.apart walk.whole inside (λ d. ap var_of (stands d) ∙ var_of-negation k) grown walk.placed
+
+  walks : (v : TrailWalk) → v.seen ≡ after → v.blocks ≡ set w.blocks (p / 8) true → v.places ≡ set w.places p true → v.present ≡ w.present → v.met.items ≡ w.met.items ++ var_of k ∷ [] → v.again.items ≡ w.again.items
       → AreCounted t.entries front (met after) v.pending v.rest → IsWalk t front v
-  walks v s b q m a counted = record {
+  walks v s b x q m a counted = record {
     valid = walk.valid;
     before = walk.before;
     room = let r = walk.room in subst (λ xs. t.vars < length xs) (sym s) (let n = length-set w.seen (var_of k) true in omega (arith, r, n));
@@ -58,17 +61,19 @@ module _ (t : TrailValue) (front : List Assigned) (w : TrailWalk) (k : Literal) 
     again = λ u h. subst (λ xs. met xs u ≡ true) (sym s) (grown u ∙ or_left (met w.seen u) (eqb u (var_of k)) (walk.again u (subst (λ xs. Contains xs u) a h)));
     wide = let r = walk.wide in let n = length-set w.blocks (p / 8) true in subst (λ xs. length t.entries / 8 < length xs) (sym b) (omega (arith, r, n));
     marked = subst (λ xs. AreMarked t.entries (met xs) v.blocks) (sym s) (subst (AreMarked t.entries (met after)) (sym b) marks);
+    whole = let r = walk.whole in let n = length-set w.places p true in subst (λ xs. length t.entries ≤ length xs) (sym x) (omega (arith, r, n));
+    placed = subst (λ xs. ArePlaced t.entries (met xs) v.places) (sym s) (subst (ArePlaced t.entries (met after)) (sym x) placing);
   }
 
   -- of the present level
-  pub meets_here : (v : TrailWalk) → v.seen ≡ after → v.blocks ≡ set w.blocks (p / 8) true → v.present ≡ w.present → v.pending ≡ w.pending + 1 → v.rest ≡ w.rest
+  pub meets_here : (v : TrailWalk) → v.seen ≡ after → v.blocks ≡ set w.blocks (p / 8) true → v.places ≡ set w.places p true → v.present ≡ w.present → v.pending ≡ w.pending + 1 → v.rest ≡ w.rest
       → v.met.items ≡ w.met.items ++ var_of k ∷ [] → v.again.items ≡ w.again.items → e.level ≡ w.present → IsWalk t front v
-  meets_here v s c q a b m g l = walks v s c q m g (rw (a, b) (meets_present t.entries front walk.valid.apart walk.before (met w.seen) (met after) k e here is is_false new grown w.pending w.rest walk.counted (l ∙ walk.level)))
+  meets_here v s c x q a b m g l = walks v s c x q m g (rw (a, b) (meets_present t.entries front walk.valid.apart walk.before (met w.seen) (met after) k e here is is_false new grown w.pending w.rest walk.counted (l ∙ walk.level)))
 
   -- of a lower one
-  pub meets_below : (v : TrailWalk) → v.seen ≡ after → v.blocks ≡ set w.blocks (p / 8) true → v.present ≡ w.present → v.pending ≡ w.pending → v.rest ≡ w.rest + 1
+  pub meets_below : (v : TrailWalk) → v.seen ≡ after → v.blocks ≡ set w.blocks (p / 8) true → v.places ≡ set w.places p true → v.present ≡ w.present → v.pending ≡ w.pending → v.rest ≡ w.rest + 1
       → v.met.items ≡ w.met.items ++ var_of k ∷ [] → v.again.items ≡ w.again.items → (e.level ≡ w.present → ⊥) → IsWalk t front v
-  meets_below v s c r a b m g l = walks v s c r m g (rw (a, b) (meets_lower t.entries front walk.valid.apart walk.before (met w.seen) (met after) k e here is is_false new grown w.pending w.rest walk.counted (λ q. l (q ∙ sym walk.level))))
+  meets_below v s c x r a b m g l = walks v s c x r m g (rw (a, b) (meets_lower t.entries front walk.valid.apart walk.before (met w.seen) (met after) k e here is is_false new grown w.pending w.rest walk.counted (λ q. l (q ∙ sym walk.level))))
 
   pub meets_only : (xs : List Bool) → xs ≡ after → HasMet front w.seen xs
   meets_only xs s = subst (HasMet front w.seen) (sym s) (mark_one front w.seen w.seen k below (met_none front w.seen) known)

@@ -53,7 +53,7 @@ module _ (es : List Assigned) (i : ℕ) (below : i < length es) (e : Assigned) (
 
 -- the walk that is left
 pub passed : (t : TrailValue) (front : List Assigned) (w : TrailWalk) (i pending rest : ℕ) (notes : Bool) → IsWalk t front w → AreCounted t.entries (take i t.entries) (met w.seen) pending rest
-    → IsWalk t (take i t.entries) (record { seen = w.seen; present = w.present; pending = pending; rest = rest; met = w.met; again = w.again; notes = notes; blocks = w.blocks })
+    → IsWalk t (take i t.entries) (record { seen = w.seen; present = w.present; pending = pending; rest = rest; met = w.met; again = w.again; notes = notes; blocks = w.blocks; places = w.places })
 passed t front w i pending rest notes walk counted = record {
   valid = walk.valid;
   before = (drop i t.entries, sym (take-append-drop i t.entries));
@@ -64,4 +64,6 @@ passed t front w i pending rest notes walk counted = record {
   again = walk.again;
   wide = walk.wide;
   marked = walk.marked;
+  whole = walk.whole;
+  placed = walk.placed;
 }

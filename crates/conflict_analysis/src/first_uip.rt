@@ -47,6 +47,8 @@ pub(crate) struct TrailWalk {
     /// the present level.
     pub(crate) notes: bool,
     pub(crate) blocks: Seen,
+    /// By index of the trail: the met entries. So the walk passes an entry of a marked block that was not met without reading it.
+    pub(crate) places: Seen,
 }
 
 impl TrailWalk {
@@ -64,6 +66,7 @@ impl TrailWalk {
             again: Vec::new(alloc),
             notes: true,
             blocks: Seen::new(alloc),
+            places: Seen::new(alloc),
         }
     }
 
@@ -76,6 +79,7 @@ impl TrailWalk {
     {
         self.seen.restart(trail.vars())?;
         self.blocks.restart((trail.len() / BLOCK) as u32)?;
+        self.places.restart(trail.len() as u32)?;
         self.present = trail.level();
         self.pending = 0;
         self.rest = 0;
@@ -156,6 +160,7 @@ impl TrailWalk {
         self.met.push(var)?;
         self.seen.insert(var);
         self.blocks.insert_at(place / BLOCK);
+        self.places.insert_at(place);
         if entry.level == self.present {
             self.pending += 1;
         } else {
@@ -278,6 +283,9 @@ impl TrailWalk {
         ensures notes { (d : Assigned) → OnTrue result (self.new.notes ≡ nat_eq (slice_index_or trail.now.entries i d).level (present trail.now.entries)) }
         ensures passed { OnFalse result (self.new.pending ≡ self.old.pending) }
     {
+        if !self.places.has_at(i) {
+            return false;
+        }
         let entry = trail.entries()[i];
         if !self.seen.has(entry.literal.var()) {
             return false;

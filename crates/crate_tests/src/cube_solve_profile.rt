@@ -32,63 +32,63 @@ fn pigeons(alloc: Global) -> Result<String, AllocError> {
 /// What a log tells of its lemmas, in the order in which they were learnt.
 #[derive(Drop)]
 struct Told {
-    /// How much each was used: 1024 for each line whose hints name it and for its own, at most 65535, halved after each 256th lemma.
-    uses: Vec<u64>,
+    /// When each was used last: by a line whose hints name it, or its own. The time is the number of lemmas then.
+    used: Vec<usize>,
     /// Whether it has three or more literals, and was not deleted.
     may_go: Vec<bool>,
+    /// The number of lemmas that are not deleted.
+    live: usize,
+    /// The number of lemmas at the last reduction. The first one finds none that was not used lately, and has no line.
+    reduced: usize,
 }
 
 impl Told {
     fn use_all(&mut self, hints: &[u64]) {
+        let now = self.used.len();
         for &hint in hints {
-            if hint >= FIRST && ((hint - FIRST) as usize) < self.uses.len() {
-                let place = (hint - FIRST) as usize;
-                self.uses[place] = self.uses[place].saturating_add(1024).min(65535);
+            if hint >= FIRST && ((hint - FIRST) as usize) < self.used.len() {
+                self.used[(hint - FIRST) as usize] = now;
             }
-        }
-    }
-
-    fn halve(&mut self) {
-        for count in self.uses.iter_mut() {
-            *count /= 2;
         }
     }
 
     fn learn(&mut self, literals: usize) -> Result<(), AllocError> {
-        self.uses.push(1024)?;
+        let now = self.used.len();
+        self.used.push(now)?;
         self.may_go.push(literals > 2)?;
-        if self.uses.len() % 256 == 0 {
-            self.halve();
-        }
+        self.live = self.live.saturating_add(1);
         Ok(())
     }
 
-    /// The ranks of the lemmas that may go, lowest first: those of few uses come first, and of as many uses the older.
-    fn ranks(&self, alloc: Global) -> Result<Vec<u64>, AllocError> {
-        let mut ranks = Vec::new(alloc);
-        for i in 0..self.uses.len().min(self.may_go.len()) {
-            if self.may_go[i] {
-                ranks.push(self.uses[i] << 20 | i as u64)?;
+    /// The number of lemmas that may go, and were not used since the last reduction. A log does not tell whether they have
+    /// few levels, and so stay.
+    fn candidates(&self) -> usize {
+        let mut candidates = 0usize;
+        for i in 0..self.used.len().min(self.may_go.len()) {
+            if self.may_go[i] && self.used[i] < self.reduced {
+                candidates = candidates.saturating_add(1);
             }
         }
-        ranks.sort_unstable();
-        Ok(ranks)
+        candidates
     }
 
-    /// Whether lemmas are among the half that was used least. A lemma of few levels stays, which a log does not tell, so the
-    /// half may want some.
-    fn are_least_used(&self, alloc: Global, ids: &[u64]) -> Result<bool, AllocError> {
-        let ranks = self.ranks(alloc)?;
-        let mut least = 0usize;
-        for rank in &ranks[..ranks.len() / 2] {
-            if ids
-                .binary_search(&(*rank % (1 << 20)).saturating_add(FIRST))
-                .is_ok()
-            {
-                least = least.saturating_add(1);
+    fn is_candidate(&self, id: u64) -> bool {
+        if id < FIRST || (id - FIRST) as usize >= self.used.len().min(self.may_go.len()) {
+            return false;
+        }
+        let place = (id - FIRST) as usize;
+        self.may_go[place] && self.used[place] < self.reduced
+    }
+
+    /// Whether these lemmas are at most three quarters of the candidates, and leave 2,000 lemmas.
+    fn are_spare(&self, ids: &[u64]) -> bool {
+        for id in ids {
+            if !self.is_candidate(*id) {
+                return false;
             }
         }
-        Ok(least == ids.len() && least > ranks.len() / 3)
+        ids.len().saturating_mul(4) <= self.candidates().saturating_mul(3)
+            && self.live.saturating_sub(ids.len()) >= 2000
     }
 
     fn delete(&mut self, ids: &[u64]) {
@@ -97,17 +97,13 @@ impl Told {
                 self.may_go[(id - FIRST) as usize] = false;
             }
         }
+        self.live = self.live.saturating_sub(ids.len());
+        self.reduced = self.used.len();
     }
 }
 
-/// Takes a line of a log, of which a deletion is one of lemmas that were used least. Whether it is a deletion.
-fn take_line(
-    rt: &impl Abort,
-    alloc: Global,
-    told: &mut Told,
-    step: &mut StepBuffer,
-    line: &[u8],
-) -> bool {
+/// Takes a line of a log, of which a deletion is one of lemmas that may go. Whether it is a deletion.
+fn take_line(rt: &impl Abort, told: &mut Told, step: &mut StepBuffer, line: &[u8]) -> bool {
     assert!(rt; read_line(step, line).is_ok());
     match step.as_ref() {
         StepRef::Add { lits, hints, .. } => {
@@ -116,27 +112,29 @@ fn take_line(
             false
         }
         StepRef::Delete { ids } => {
-            assert!(rt; told.are_least_used(alloc, ids).expect(rt, "memory"));
+            assert!(rt; told.are_spare(ids));
             told.delete(ids);
             true
         }
     }
 }
 
-/// Each deletion of a log is one of lemmas that were used least: how many deletions there are.
+/// Each deletion of a log is one of lemmas that may go: how many deletions there are.
 fn deletions_of(rt: &impl Abort, alloc: Global, log: &[u8]) -> u32 {
     let mut told = Told {
-        uses: Vec::new(alloc),
+        used: Vec::new(alloc),
         may_go: Vec::new(alloc),
+        live: 0,
+        reduced: 2001,
     };
     let mut step = StepBuffer::new(alloc);
     let mut deletions = 0u32;
     let mut rest = log;
-    for _ in 0..3000 {
+    for _ in 0..4000 {
         let Some((line, later)) = cut_line(rest) else {
             break;
         };
-        if take_line(rt, alloc, &mut told, &mut step, line) {
+        if take_line(rt, &mut told, &mut step, line) {
             deletions = deletions.saturating_add(1);
         }
         rest = later;
@@ -149,10 +147,10 @@ fn pigeons_base(alloc: Global) -> Result<Base, Fail> {
 }
 
 #[test]
-fn the_half_that_is_used_least_is_forgotten(rt: HostRuntime) -> Result<(), Fail> {
+fn what_was_not_used_lately_is_forgotten(rt: HostRuntime) -> Result<(), Fail> {
     let base = pigeons_base(rt.alloc())?;
-    let log = log_at(&rt, rt.alloc(), &base, 2400);
-    assert_eq!(rt; deletions_of(&rt, rt.alloc(), &log), 1);
+    let log = log_at(&rt, rt.alloc(), &base, 3600);
+    assert_eq!(rt; deletions_of(&rt, rt.alloc(), &log), 6);
     Ok(())
 }
 
@@ -172,13 +170,13 @@ fn course(rt: &impl Abort, alloc: Global, base: &Base, limit: u64) -> u64 {
 
 /// Limits of one search, and the digests there: in its first focused phase, in its first stable one, after the first deletion, and
 /// after a rephasing.
-const LIMITS: (u64, u64, u64, u64) = (200, 1200, 2500, 6000);
+const LIMITS: (u64, u64, u64, u64) = (200, 1200, 2700, 6000);
 
 const DIGESTS: (u64, u64, u64, u64) = (
     10866217410755790172,
     14893062956026013742,
-    11508993254657979480,
-    18382059315230255385,
+    14418251343604086982,
+    2512913286298192230,
 );
 
 /// The digests change if a search bumps, saves values, minimises, restarts, changes its phase or forgets in another way.

@@ -32,6 +32,8 @@ mod dimacs_formulas;
 #[cfg(test)]
 mod frames_messages;
 #[cfg(test)]
+mod hmac_vectors;
+#[cfg(test)]
 mod icnf_compared;
 #[cfg(test)]
 mod icnf_trees;

@@ -1,4 +1,5 @@
 pub mod Conflicts
+pub mod Counts
 pub mod Outcome
 pub mod Subsequences
 pub mod Session

@@ -14,11 +14,14 @@ use std::alloc::{AllocError, Global};
 use std::marker::Model;
 use watches::{Trail, Truth};
 
-/// The first bump of a score. With each lemma the bump grows by a 200th, so that late bumps count more.
+/// The first bump of a score. With each lemma the bump grows, so that late bumps count more.
 const FIRST_BUMP: u64 = 1 << 10;
 
 /// The bump grows by itself divided by this number, and 1.
-const GROWTH: u64 = 200;
+const GROWTH: u64 = 20;
+
+/// The same in a flat formula, whose conflicts tell less of where the next ones are.
+const FLAT_GROWTH: u64 = 200;
 
 /// If the bump is above this number, it and all scores are divided by `SCALE` (rescoring).
 const GREATEST_BUMP: u64 = 1 << 50;
@@ -39,8 +42,8 @@ pub(crate) struct Order {
     values: SavedPhases,
     /// Whether the mode is stable; else it is focused.
     is_stable: bool,
-    /// Whether the heap decides and is bumped, instead of the queue.
-    by_scores: bool,
+    /// Whether the formula is flat, so that scores decide in both modes.
+    is_flat: bool,
 }
 
 impl Drop for Order {
@@ -51,7 +54,7 @@ impl Drop for Order {
             queue: _,
             values: _,
             is_stable: _,
-            by_scores: _,
+            is_flat: _,
         } = self;
     }
 }
@@ -146,8 +149,13 @@ impl Order {
             queue: VmtfQueue::new(alloc, vars)?,
             values: SavedPhases::new(alloc, vars)?,
             is_stable: false,
-            by_scores: false,
+            is_flat: false,
         })
+    }
+
+    /// Whether the heap decides and is bumped, instead of the queue.
+    fn goes_by_scores(&self) -> bool {
+        self.is_stable || self.is_flat
     }
 
     /// Finds the last bumped unassigned variable of the queue; None if the heap decides, or if the queue finds none.
@@ -155,7 +163,7 @@ impl Order {
         ensures free { IfSome result (λ v. IsUnassigned trail.now (Neg v)) }
         ensures same { self.new ≡ self.old }
     {
-        if self.by_scores {
+        if self.goes_by_scores() {
             return None;
         }
         self.queue.find(trail)
@@ -216,7 +224,7 @@ impl Order {
         requires again { All (λ v. (0 < v) × (v ≤ self.old.vars)) again.now }
         ensures { HasSameMembers self.old self.new }
     {
-        if !self.by_scores {
+        if !self.goes_by_scores() {
             return self.queue.bump(met);
         }
         bump_all(&mut self.heap, met, self.bump);
@@ -225,11 +233,16 @@ impl Order {
         Ok(())
     }
 
-    /// Raises the next bump by a 200th. If it is above `GREATEST_BUMP` then, divides it and all scores by `SCALE`.
+    /// Raises the next bump by its share, and 1. If it is above `GREATEST_BUMP` then, divides it and all scores by `SCALE`.
     fn raise_bump(&mut self)
         ensures { HasSameMembers self.old self.new }
     {
-        self.bump = self.bump.saturating_add(self.bump / GROWTH + 1);
+        let more = if self.is_flat {
+            self.bump / FLAT_GROWTH
+        } else {
+            self.bump / GROWTH
+        };
+        self.bump = self.bump.saturating_add(more).saturating_add(1);
         if self.bump > GREATEST_BUMP {
             self.bump /= SCALE;
             self.heap.divide(SCALE);
@@ -252,13 +265,13 @@ impl Order {
         self.values.take_over(&other.values, trail);
     }
 
-    /// Switches between focused and stable mode; `by_scores` says whether the heap decides in the
-    /// new mode. The queue's search begins at its latest variable again.
-    pub(crate) fn switch_mode(&mut self, by_scores: bool)
+    /// Switches between focused and stable mode; `is_flat` says whether the heap decides in both.
+    /// The queue's search begins at its latest variable again.
+    pub(crate) fn switch_mode(&mut self, is_flat: bool)
         ensures { self.new ≡ self.old }
     {
         self.is_stable = !self.is_stable;
-        self.by_scores = by_scores;
+        self.is_flat = is_flat;
         self.queue.rewind();
     }
 

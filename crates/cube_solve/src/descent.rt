@@ -96,6 +96,7 @@ impl<P: Propagator> State<'_, P> {
                     self.assumed = self.assumed.max(self.trail.level());
                 }
                 Next::Decide(literal) => {
+                    self.decisions = self.decisions.saturating_add(1);
                     self.assumed = level.min(self.assumed);
                     open_level(self.propagator, &self.arena, &mut self.trail, literal);
                 }

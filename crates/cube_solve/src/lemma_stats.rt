@@ -1,8 +1,8 @@
-//! Statistics of lemmas: how often each was used, and its LBD. By them lemmas are chosen for deletion.
+//! Statistics of lemmas: when each was last used, and its LBD. By them lemmas are chosen for deletion.
 //!
-//! No promise rests on the counts: any lemma that is chosen by them may be deleted.
+//! No promise rests on the statistics: any lemma that is chosen by them may be deleted.
 
-ghost use Rattle.std.specs.Prelude.{◌≡◌, ◌<◌, ◌≤◌, [], ◌∷◌, ◌++◌, ◌⊎◌, length, All, Contains, IfOk, IfSome, OnOk};
+ghost use Rattle.std.specs.Prelude.{◌≡◌, ◌<◌, ◌≤◌, [], ◌∷◌, ◌++◌, ◌⊎◌, All, Contains, IfOk, OnOk};
 ghost use Rattle.clause_arena.specs.Clauses.{live_of};
 ghost use Rattle.conflict_analysis.specs.BuiltTrails.{AreInside};
 ghost use Rattle.cube_solve.specs.inner.Reduction.{AreRising};
@@ -12,37 +12,56 @@ use clause_arena::Arena;
 use std::alloc::{AllocError, Global};
 use watches::Trail;
 
-/// What one use adds to a count. After eleven halvings nothing is left of it, and a count saturates at 64 uses.
-const USE: u16 = 1024;
-
-/// A lemma with at most this LBD is never deleted.
+/// A lemma of at most this LBD is never deleted.
 const FEW_LEVELS: u8 = 2;
 
-/// The limit of live lemmas at the first reduction, beside those that are kept forever.
-const MOST_LEMMAS: usize = 2000;
+/// A lemma of at most this LBD stays at two reductions after its last use, others stay at one.
+const SOME_LEVELS: u8 = 6;
 
-/// The increase of the limit at each later reduction.
-const MORE_LEMMAS: usize = 20;
+/// While at most this many lemmas are live, nothing is deleted. Lemmas of one literal do not count.
+const FEW_LEMMAS: usize = 2000;
 
-/// The increase of the limit in a session, which keeps lemmas from query to query.
-const MORE_LEMMAS_KEPT: usize = 300;
+/// Reduction number n comes n times this many conflicts after the last one.
+const BETWEEN_REDUCTIONS: u64 = 300;
 
-/// For each clause from the first lemma on: a count of the analyses that used it, its own included, which is halved from time to time; and
-/// its LBD.
+/// The same in a flat formula, whose watch lists are long, so that many lemmas cost more than they save.
+const FLAT_BETWEEN_REDUCTIONS: u64 = 50;
+
+/// The greatest number of literals by which lemmas are compared.
+const LONG: u64 = (1 << 24) - 1;
+
+/// What is known of a lemma.
+#[derive(Clone, Copy)]
+struct Stats {
+    /// Its LBD: at first without the level of its conflict; later the least that `note_uses` found, of all levels above 0.
+    levels: u8,
+    /// The number of the last reduction, from 1, at which it stays if it is not used again.
+    stays: u16,
+}
+
+impl Stats {
+    /// The statistics of a lemma of this LBD that is used after so many reductions.
+    fn used(levels: u8, reductions: u16) -> Stats {
+        Stats {
+            levels,
+            stays: reductions.saturating_add(if levels <= SOME_LEVELS { 2 } else { 1 }),
+        }
+    }
+}
+
+/// The statistics of all lemmas, and the schedule of reductions.
 #[derive(Drop)]
 pub(crate) struct LemmaStats {
-    /// The number of the first lemma, whose counts are at index 0 of the tables.
+    /// The number of the first lemma, whose statistics are at index 0 of `stats`.
     first: u64,
-    /// The use count of each lemma, live or deleted.
-    counts: Vec<u16>,
-    /// The LBD of each lemma: at first without the level of its conflict; later the least that `lower_lbds` found, of all levels above 0.
-    levels: Vec<u8>,
+    /// For each clause from the first lemma on, live or deleted.
+    stats: Vec<Stats>,
     /// The number of reductions so far.
-    reductions: usize,
-    /// The increase of the limit at each reduction.
-    more: usize,
-    /// The limit of live lemmas: the next reduction comes above it.
-    most: usize,
+    reductions: u16,
+    /// The number of conflicts until the next reduction is due.
+    left: u64,
+    /// While at most this many lemmas are live, nothing is deleted: `FEW_LEMMAS`, and 1 for each lemma of one literal.
+    few: usize,
 }
 
 /// Appends a number to `numbers` if `kept` is true. A function of its own, for its contract.
@@ -65,57 +84,97 @@ fn lbd_up_to(levels: &mut LbdCounter, arena: &Arena, trail: &Trail, number: u64,
     }
 }
 
+/// The number of literals of the live clause of this number; 0 if there is none.
+fn len_of(arena: &Arena, number: u64) -> u64 {
+    match arena.find(number) {
+        Some(at) => arena.clause(at).len() as u64,
+        None => 0,
+    }
+}
+
+/// The rank of which `count` of these ranks are below, if all ranks differ; 0 if there are not more than `count`.
+fn cut_at(alloc: Global, ranks: &[u64], count: usize) -> Result<u64, AllocError> {
+    let mut sorted = Vec::from_slice(alloc, ranks)?;
+    sorted.sort_unstable();
+    Ok(match sorted.get(count) {
+        Some(&rank) => rank,
+        None => 0,
+    })
+}
+
+/// Whether the rank at this index is below `cut`; false if there is none.
+fn is_below(ranks: &[u64], place: usize, cut: u64) -> bool {
+    match ranks.get(place) {
+        Some(&rank) => rank < cut,
+        None => false,
+    }
+}
+
 impl LemmaStats {
     /// Statistics of no lemma; `first` is the number of the first lemma to come.
     pub(crate) fn new(alloc: Global, first: u64) -> LemmaStats {
         LemmaStats {
             first,
-            counts: Vec::new(alloc),
-            levels: Vec::new(alloc),
+            stats: Vec::new(alloc),
             reductions: 0,
-            more: MORE_LEMMAS,
-            most: MOST_LEMMAS,
+            left: BETWEEN_REDUCTIONS,
+            few: FEW_LEMMAS,
         }
     }
 
-    /// Raises the limit of live lemmas faster at each reduction: in a session, later queries use
-    /// lemmas of earlier ones.
-    pub(crate) fn keep_more(&mut self) {
-        self.more = MORE_LEMMAS_KEPT;
+    /// The number of reductions so far.
+    pub(crate) fn reductions(&self) -> u64 {
+        self.reductions as u64
     }
 
-    /// Appends the statistics of the next clause, with one use and the LBD `levels`, which is 0 if the clause is no lemma.
+    /// Appends the statistics of the next lemma, that of a conflict, which has the LBD `levels` and is used now. Counts the conflict.
     pub(crate) fn learn(&mut self, levels: u8) -> Result<(), AllocError> {
-        self.counts.push(USE)?;
-        self.levels.push(levels)?;
+        self.left = self.left.saturating_sub(1);
+        self.stats.push(Stats::used(levels, self.reductions))?;
         Ok(())
     }
 
-    /// Appends the statistics of the next lemma, which has one literal. It is never deleted, so the limit is raised by 1.
-    pub(crate) fn learn_unit(&mut self) -> Result<(), AllocError> {
-        self.most = self.most.saturating_add(1);
-        self.learn(1)
+    /// Appends the statistics of the next clause, which is never deleted.
+    pub(crate) fn add(&mut self) -> Result<(), AllocError> {
+        self.stats.push(Stats::used(0, 0))?;
+        Ok(())
     }
 
-    /// The LBD of the clause of this number; 0 if the clause is no lemma.
-    fn lbd_of(&self, number: u64) -> u8 {
-        match number.checked_sub(self.first) {
-            Some(place) => match self.levels.get(place as usize) {
-                Some(&levels) => levels,
-                None => 0,
-            },
-            None => 0,
+    /// Appends the statistics of the next lemma, which has one literal. It is never deleted, and does not count among those that are live.
+    pub(crate) fn learn_unit(&mut self) -> Result<(), AllocError> {
+        self.few = self.few.saturating_add(1);
+        self.add()
+    }
+
+    /// The statistics of the clause of this number; those of a lemma of LBD 0 if the clause is no lemma.
+    fn stats_of(&self, number: u64) -> Stats {
+        if let Some(place) = number.checked_sub(self.first) {
+            if let Some(&stats) = self.stats.get(place as usize) {
+                return stats;
+            }
+        }
+        Stats::used(0, 0)
+    }
+
+    /// Sets the statistics of the lemma of this number; nothing changes if the clause is no lemma.
+    fn set_stats(&mut self, number: u64, stats: Stats) {
+        if let Some(place) = number.checked_sub(self.first) {
+            if let Some(kept) = self.stats.get_mut(place as usize) {
+                *kept = stats;
+            }
         }
     }
 
-    /// Whether the LBD of the clause of this number allows its deletion: lemmas of low LBD are kept
-    /// for good. False if the clause is no lemma.
+    /// Whether the statistics of the clause of this number allow its deletion: its LBD is not low, and it was not used lately. False if
+    /// the clause is no lemma.
     pub(crate) fn may_go(&self, number: u64) -> bool {
-        self.lbd_of(number) > FEW_LEVELS
+        let stats = self.stats_of(number);
+        stats.levels > FEW_LEVELS && stats.stays <= self.reductions
     }
 
-    /// Lowers the LBD of each lemma that an analysis used to the present one, if that is less. Lemmas that are never deleted are left out.
-    pub(crate) fn lower_lbds(
+    /// Notes that an analysis used the clauses of these numbers, and lowers the LBD of each lemma among them to the present one, if that is
+    /// less. Lemmas of low LBD are left out, since they are never deleted.
+    pub(crate) fn note_uses(
         &mut self,
         levels: &mut LbdCounter,
         arena: &Arena,
@@ -125,104 +184,79 @@ impl LemmaStats {
         requires { AreInside (live_of arena.now) trail.now.vars }
     {
         for &number in met {
-            let most = self.lbd_of(number);
+            let most = self.stats_of(number).levels;
             if most > FEW_LEVELS {
-                self.set_lbd(number, lbd_up_to(levels, arena, trail, number, most));
+                let present = lbd_up_to(levels, arena, trail, number, most);
+                self.set_stats(number, Stats::used(present, self.reductions));
             }
         }
     }
 
-    /// Sets the LBD of the lemma of this number; nothing changes if the clause is no lemma.
-    fn set_lbd(&mut self, number: u64, levels: u8) {
-        if let Some(place) = number.checked_sub(self.first) {
-            if let Some(kept) = self.levels.get_mut(place as usize) {
-                *kept = levels;
-            }
-        }
-    }
-
-    /// The limit of live lemmas: the next reduction comes above it.
+    /// While at most this many lemmas are live, there is no reduction, and a reduction leaves as many. No number is above it as long as
+    /// the next reduction is not due.
     pub(crate) fn most(&self) -> usize
         ensures { 2000 ≤ result }
     {
-        self.most.max(MOST_LEMMAS)
+        if self.left > 0 {
+            return usize::MAX;
+        }
+        self.few.max(FEW_LEMMAS)
     }
 
-    /// Sets the limit after a reduction that deletes `gone` of `live` lemmas. Half of the candidates are deleted, so `live - 2 * gone`
-    /// lemmas were no candidates; the limit is their number, and what is allowed beside them.
-    pub(crate) fn note_reduction(&mut self, live: usize, gone: usize) {
+    /// Counts a reduction, and schedules the next one. `is_flat` says whether the formula is flat (`Modes::is_flat`).
+    pub(crate) fn note_reduction(&mut self, is_flat: bool) {
         self.reductions = self.reductions.saturating_add(1);
-        let more = self.reductions.saturating_mul(self.more);
-        self.most = live
-            .saturating_sub(gone.saturating_mul(2))
-            .saturating_add(MOST_LEMMAS)
-            .saturating_add(more);
-    }
-
-    /// The index of the clause of this number in the tables; None if the clause is no lemma.
-    fn place_of(&self, number: u64) -> Option<usize>
-        ensures { IfSome result (λ place. place < length self.now.counts.items) }
-    {
-        let place = number.checked_sub(self.first)? as usize;
-        if place < self.counts.len() {
-            Some(place)
+        let between = if is_flat {
+            FLAT_BETWEEN_REDUCTIONS
         } else {
-            None
-        }
+            BETWEEN_REDUCTIONS
+        };
+        self.left = between.saturating_mul(self.reductions as u64 + 1);
     }
 
-    /// Counts a use of each lemma among the clauses of these numbers, which an analysis has met.
-    pub(crate) fn count(&mut self, met: &[u64]) {
-        for &number in met {
-            if let Some(place) = self.place_of(number) {
-                self.counts[place] = self.counts[place].saturating_add(USE);
-            }
-        }
+    /// The rank of a lemma for deletion, the least is deleted first: that of most levels, of as many levels that of most literals, and
+    /// of as many literals the first one; `place` is its index among the candidates.
+    fn rank_of(&self, arena: &Arena, number: u64, place: usize) -> u64 {
+        let levels = (u8::MAX - self.stats_of(number).levels) as u64;
+        let literals = LONG - len_of(arena, number).min(LONG);
+        levels << 56 | literals << 32 | (place as u64).min((1 << 32) - 1)
     }
 
-    /// Halves the use counts of these lemmas if `is_due` is true, so that recent uses count more.
-    pub(crate) fn halve_if(&mut self, is_due: bool, lemmas: &[u64]) {
-        if !is_due {
-            return;
-        }
-        for &number in lemmas {
-            if let Some(place) = self.place_of(number) {
-                self.counts[place] /= 2;
-            }
-        }
-    }
-
-    /// The rank of a lemma for deletion, the least is deleted first: by uses, and of equal uses the older first.
-    fn rank_of(&self, number: u64) -> u64 {
-        match self.place_of(number) {
-            Some(place) => (self.counts[place] as u64) << 48 | number,
-            None => number,
-        }
-    }
-
-    /// The median rank of these lemmas: half of them, rounded down, are below it; 0 if there are none.
-    fn middle_of(&self, alloc: Global, lemmas: &[u64]) -> Result<u64, AllocError> {
+    /// The ranks of these lemmas, in their order.
+    fn ranks_of(
+        &self,
+        alloc: Global,
+        arena: &Arena,
+        lemmas: &[u64],
+    ) -> Result<Vec<u64>, AllocError> {
         let mut ranks = Vec::with_capacity(alloc, lemmas.len())?;
         for &number in lemmas {
-            ranks.push(self.rank_of(number))?;
+            let rank = self.rank_of(arena, number, ranks.len());
+            ranks.push(rank)?;
         }
-        ranks.sort_unstable();
-        Ok(match ranks.get(lemmas.len() / 2) {
-            Some(&rank) => rank,
-            None => 0,
-        })
+        Ok(ranks)
     }
 
-    /// The half of these lemmas, rounded down, that is used least, in their order.
-    pub(crate) fn least_used(&self, alloc: Global, lemmas: &[u64]) -> Result<Vec<u64>, AllocError>
+    /// Three quarters of these lemmas, rounded down, and at most `most`: those of most levels, in their order.
+    pub(crate) fn least_useful(
+        &self,
+        alloc: Global,
+        arena: &Arena,
+        lemmas: &[u64],
+        most: usize,
+    ) -> Result<Vec<u64>, AllocError>
         requires { AreRising lemmas.now }
         ensures rising { IfOk result (λ ids. AreRising ids.items) }
         ensures among { IfOk result (λ ids. All (Contains lemmas.now) ids.items) }
     {
-        let middle = self.middle_of(alloc, lemmas)?;
-        let mut least = Vec::with_capacity(alloc, lemmas.len() / 2)?;
+        let ranks = self.ranks_of(alloc, arena, lemmas)?;
+        let count = (lemmas.len().saturating_mul(3) / 4).min(most);
+        let cut = cut_at(alloc, &ranks, count)?;
+        let mut least = Vec::with_capacity(alloc, count)?;
+        let mut place = 0usize;
         for &number in lemmas {
-            keep_if(self.rank_of(number) < middle, number, &mut least)?;
+            keep_if(is_below(&ranks, place, cut), number, &mut least)?;
+            place = place.saturating_add(1);
         }
         Ok(least)
     }

@@ -10,6 +10,7 @@
 
 mod answer;
 mod base_loader;
+mod counts;
 mod decision;
 mod decision_order;
 mod descent;
@@ -23,6 +24,7 @@ mod model;
 mod modes;
 mod more_variables;
 mod moving_average;
+mod observer;
 mod outcome;
 mod query;
 mod reduce;
@@ -36,6 +38,7 @@ mod unit_clauses;
 mod vmtf_queue;
 
 pub use answer::{Answer, Failure};
-pub use outcome::Outcome;
+pub use observer::{Counts, Observer, Unobserved};
+pub use outcome::{Outcome, Searched};
 pub use session::Session;
-pub use solve_cube::{solve, solve_by};
+pub use solve_cube::{solve, solve_by, solve_observed};

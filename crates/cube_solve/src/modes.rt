@@ -9,9 +9,6 @@ use crate::saved_phases::Rephase;
 /// The length of the first phase, in conflicts. The ticks in it are the unit by which later phases are measured.
 const FIRST_PHASE: u64 = 1000;
 
-/// The length of a stable phase, in focused phases.
-const STABLE_TIMES: u64 = 2;
-
 /// The fewest conflicts between two restarts of a focused phase.
 const BETWEEN_RESTARTS: u64 = 2;
 
@@ -40,7 +37,7 @@ pub(crate) enum AfterConflict {
     Continue,
     /// Backtrack to the levels of assumptions.
     Restart,
-    /// Backtrack to level 0, and begin the other mode; true if it decides by scores.
+    /// Backtrack to level 0, and begin the other mode; true if the formula is flat.
     SwitchMode(bool),
     /// Backtrack to level 0, and reset the saved values.
     Rephase(Rephase),
@@ -54,8 +51,8 @@ pub(crate) struct Modes {
     is_stable: bool,
     /// Whether the formula is dense.
     is_dense: bool,
-    /// Whether focused phases decide by scores too.
-    by_scores: bool,
+    /// Whether the first phase has found the formula flat.
+    is_flat: bool,
     /// The number of conflicts so far.
     conflicts: u64,
     /// The sum of the LBDs of the first phase's lemmas.
@@ -64,9 +61,11 @@ pub(crate) struct Modes {
     depths: u64,
     /// The number of conflicts at the last restart.
     restarted: u64,
-    /// The fast moving average of the LBDs of lemmas.
+    /// The number of restarts so far, which is only shown.
+    restart_count: u64,
+    /// The fast moving average of the LBDs of lemmas of focused phases.
     fast: MovingAverage,
-    /// The slow moving average of the LBDs of lemmas.
+    /// The slow moving average of the LBDs of lemmas of focused phases.
     slow: MovingAverage,
     /// The schedule of restarts in a stable phase.
     pace: Luby,
@@ -88,11 +87,12 @@ impl Modes {
         Modes {
             is_stable: false,
             is_dense: clauses >= (vars as u64).saturating_mul(DENSE),
-            by_scores: false,
+            is_flat: false,
             conflicts: 0,
             levels: 0,
             depths: 0,
             restarted: 0,
+            restart_count: 0,
             fast: MovingAverage::new(5),
             slow: MovingAverage::new(16),
             pace: Luby::new(),
@@ -104,31 +104,27 @@ impl Modes {
         }
     }
 
-    /// Counts a conflict at level `depth`, whose lemma has the LBD `levels`: the moving averages
-    /// that decide restarts take the LBD.
+    /// Counts a conflict at level `depth`, whose lemma has the LBD `levels`. In a focused phase the
+    /// moving averages that decide its restarts take the LBD; those of stable phases would mislead.
     pub(crate) fn learn(&mut self, levels: u8, depth: u32) {
         self.conflicts = self.conflicts.saturating_add(1);
         if self.phases == 0 {
             self.levels = self.levels.saturating_add(levels as u64);
             self.depths = self.depths.saturating_add(depth as u64);
         }
-        self.fast.add(levels as u32);
-        self.slow.add(levels as u32);
-        if self.is_stable && self.conflicts % STABLE_UNIT == 0 {
+        if !self.is_stable {
+            self.fast.add(levels as u32);
+            self.slow.add(levels as u32);
+        } else if self.conflicts % STABLE_UNIT == 0 {
             self.pace.count();
         }
-    }
-
-    /// Whether the use counts of lemmas are to be halved: after each 256th conflict.
-    pub(crate) fn halves(&self) -> bool {
-        self.conflicts % 256 == 0
     }
 
     /// Chooses the next step after a conflict; `ticks` is the number of ticks so far. Begins the next phase if this one is over.
     pub(crate) fn after_conflict(&mut self, ticks: u64) -> AfterConflict {
         if self.is_over(ticks) {
             self.begin_phase(ticks);
-            return AfterConflict::SwitchMode(self.is_stable || self.by_scores);
+            return AfterConflict::SwitchMode(self.is_flat);
         }
         if self.is_stable && self.conflicts >= self.next_rephasing {
             self.restarted = self.conflicts;
@@ -136,9 +132,20 @@ impl Modes {
         }
         if self.restarts() {
             self.restarted = self.conflicts;
+            self.restart_count = self.restart_count.saturating_add(1);
             return AfterConflict::Restart;
         }
         AfterConflict::Continue
+    }
+
+    /// The number of restarts so far, without those by which a phase begins.
+    pub(crate) fn restart_count(&self) -> u64 {
+        self.restart_count
+    }
+
+    /// The number of phases so far, with the present one.
+    pub(crate) fn phase_count(&self) -> u64 {
+        self.phases.saturating_add(1)
     }
 
     /// Whether the present phase is over: the first one by its number of conflicts, later ones by
@@ -151,9 +158,15 @@ impl Modes {
         }
     }
 
-    /// Whether focused phases decide by scores too: if conflicts are shallow and lemmas wide, the variable that was bumped last is no
-    /// nearer to the next conflict than others, and VMTF gains nothing. In sparse formulas it gains all the same.
-    fn is_flat(&self) -> bool {
+    /// Whether the formula is flat. Then focused phases decide by scores too, bumps grow slower, and reductions come more often: if
+    /// conflicts are shallow and lemmas wide, the variable that was bumped last is no nearer to the next conflict than others, and VMTF
+    /// gains nothing. In sparse formulas it gains all the same.
+    pub(crate) fn is_flat(&self) -> bool {
+        self.is_flat
+    }
+
+    /// Whether the conflicts of the first phase were shallow, and its lemmas wide, in a dense formula.
+    fn was_flat(&self) -> bool {
         self.is_dense
             && self.depths <= self.conflicts.saturating_mul(SHALLOW)
             && self.levels.saturating_mul(WIDE_PART) >= self.depths
@@ -163,17 +176,14 @@ impl Modes {
     fn begin_phase(&mut self, ticks: u64) {
         if self.phases == 0 {
             self.first_ticks = ticks.max(1);
-            self.by_scores = self.is_flat();
+            self.is_flat = self.was_flat();
         }
         self.phases = self.phases.saturating_add(1);
         self.is_stable = !self.is_stable;
         self.restarted = self.conflicts;
         self.pace = Luby::new();
         let round = (self.phases / 2).saturating_add(1);
-        let mut length = self.first_ticks.saturating_mul(round).saturating_mul(round);
-        if self.is_stable {
-            length = length.saturating_mul(STABLE_TIMES);
-        }
+        let length = self.first_ticks.saturating_mul(round).saturating_mul(round);
         self.end = ticks.saturating_add(length);
     }
 

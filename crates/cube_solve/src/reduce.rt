@@ -1,4 +1,4 @@
-//! Reduction of the lemmas: deletes the least used half of those that may be deleted.
+//! Reduction of the lemmas: deletes three quarters of those that may be deleted.
 
 ghost use Rattle.std.specs.Prelude.{◌≡◌, ℕ, ◌+◌, ◌<◌, [], ◌∷◌, ◌++◌, ◌⊎◌, Some, is_some, length, All, Contains, IfOk, OnOk, filter};
 ghost use Rattle.std.specs.Bool.{OnTrue, OnFalse};
@@ -72,7 +72,7 @@ fn is_deletable(arena: &Arena, trail: &Trail, number: u64) -> bool
     }
 }
 
-/// Appends the number of a lemma to `spare` if its LBD and `is_deletable` allow its deletion.
+/// Appends the number of a lemma to `spare` if its statistics and `is_deletable` allow its deletion.
 fn push_deletable(
     arena: &Arena,
     trail: &Trail,
@@ -91,8 +91,8 @@ fn push_deletable(
     Ok(())
 }
 
-/// The candidates among these lemmas, in their order: they have three or more literals, are no reasons, and their LBDs allow their
-/// deletion.
+/// The candidates among these lemmas, in their order: they have three or more literals, are no reasons, and their statistics allow
+/// their deletion.
 fn deletable_lemmas(
     alloc: Global,
     arena: &Arena,
@@ -114,8 +114,8 @@ fn deletable_lemmas(
     Ok(spare)
 }
 
-/// The least used half of the candidates among these lemmas, rounded down, in their order.
-fn least_used(
+/// The least useful three quarters of the candidates among these lemmas, rounded down, in their order; and so few that `LemmaStats::most` stay.
+fn least_useful(
     alloc: Global,
     arena: &Arena,
     trail: &Trail,
@@ -130,7 +130,8 @@ fn least_used(
     ensures spare { IfOk result (λ ids. All (IsDeletable (live_of arena.now) trail.now.entries) ids.items) }
 {
     let spare = deletable_lemmas(alloc, arena, trail, uses, lemmas)?;
-    let least = uses.least_used(alloc, &spare)?;
+    let most = lemmas.len().saturating_sub(uses.most());
+    let least = uses.least_useful(alloc, arena, &spare, most)?;
     Ok(least)
 }
 
@@ -213,8 +214,8 @@ fn compact_if_due<P: Propagator>(
 }
 
 impl<P: Propagator> Search<'_, P> {
-    /// Deletes the least used half of the candidates, in one line of the log that begins with `top`. If there is none to delete, only the
-    /// limit of lemmas changes.
+    /// Deletes the least useful three quarters of the candidates, in one line of the log that begins with `top`. If there is none to delete,
+    /// only the statistics of lemmas change.
     pub(crate) fn reduce(&mut self, top: u64) -> Result<(), AllocError>
         requires steady { IsSteady P.is_ready P.attached self.old.state }
         requires rising { AreRising self.old.lemmas.items }
@@ -230,14 +231,14 @@ impl<P: Propagator> Search<'_, P> {
         ensures units { self.new.units ≡ self.old.units }
     {
         let state = &mut self.state;
-        let gone = least_used(
+        let gone = least_useful(
             self.alloc,
             &state.arena,
             &state.trail,
             &self.uses,
             &self.lemmas,
         )?;
-        self.uses.note_reduction(self.lemmas.len(), gone.len());
+        self.uses.note_reduction(self.phases.is_flat());
         if gone.is_empty() {
             return Ok(());
         }

@@ -13,11 +13,13 @@ ghost use Rattle.conflict_analysis.specs.Lemmas.{IsClosing, NegatesAssumptions};
 ghost use Rattle.cube_solve.specs.inner.Reduction.{AreRising, AreLemmas, DeletesLemmas, MayReduce};
 ghost use Rattle.cube_solve.specs.inner.LearntLog.{AreBelow, IsWritten, Learns};
 ghost use Rattle.cube_solve.specs.inner.Twins.{AreLinked, IsAdded};
+ghost use Rattle.cube_solve.specs.Counts.{AreCounts};
 ghost use Rattle.cube_solve.specs.Outcome.{IsRightOutcome};
 ghost use Rattle.cube_solve.specs.inner.State.{IsAssuming};
 ghost use Rattle.cube_solve.specs.inner.SearchInvariants.{IsSteady, IsSearching};
 ghost use Rattle.cube_solve.specs.inner.UnitClauses.{AreNoted, IsRootUnitLemma};
 
+use crate::counts::refuted_by;
 use crate::descent::Found;
 use crate::garbage::Garbage;
 use crate::lbd::LbdCounter;
@@ -25,7 +27,8 @@ use crate::lemma_stats::LemmaStats;
 use crate::log::Log;
 use crate::model::read_model;
 use crate::modes::Modes;
-use crate::outcome::Outcome;
+use crate::observer::Observer;
+use crate::outcome::{Outcome, Searched};
 use crate::root_units::{list_root_literals, make_next_unit};
 use crate::state::State;
 use crate::unit_clauses::UnitClauses;
@@ -43,7 +46,7 @@ pub(crate) struct Search<'a, P> {
     pub(crate) state: State<'a, P>,
     /// The numbers of the live lemmas, in ascending order.
     pub(crate) lemmas: Vec<u64>,
-    /// How often each lemma was used, and its LBD.
+    /// When each lemma was last used, and its LBD; the schedule of reductions.
     pub(crate) uses: LemmaStats,
     /// The lemmas and deletions, as LRAT text, since the log was last taken.
     pub(crate) log: Log,
@@ -60,7 +63,7 @@ pub(crate) struct Search<'a, P> {
     /// The counter of LBDs.
     levels: LbdCounter,
     /// The schedule of restarts, modes and rephasings.
-    phases: Modes,
+    pub(crate) phases: Modes,
 }
 
 impl<P> Drop for Search<'_, P> {
@@ -185,8 +188,7 @@ impl<'a, P: Propagator> Search<'a, P> {
             &state.trail,
             &self.lemma.hints,
         )?;
-        self.uses.count(&self.lemma.hints);
-        self.uses.lower_lbds(
+        self.uses.note_uses(
             &mut self.levels,
             &state.arena,
             &state.trail,
@@ -275,7 +277,7 @@ impl<'a, P: Propagator> Search<'a, P> {
         }
     }
 
-    /// Halves the use counts, restarts or rephases, and reduces the lemmas, each if it is due. The line of a reduction begins with `top`.
+    /// Restarts or rephases, and reduces the lemmas, each if it is due. The line of a reduction begins with `top`.
     pub(crate) fn restart_and_reduce(&mut self, top: u64) -> Result<(), AllocError>
         requires steady { IsSteady P.is_ready P.attached self.old.state }
         requires rising { AreRising self.old.lemmas.items }
@@ -289,7 +291,6 @@ impl<'a, P: Propagator> Search<'a, P> {
         ensures drops { OnOk result (DeletesLemmas top self.old.lemmas.items self.new.lemmas.items (live_of self.old.state.arena) (live_of self.new.state.arena) self.old.log self.new.log) }
         ensures units { self.new.units ≡ self.old.units }
     {
-        self.uses.halve_if(self.phases.halves(), &self.lemmas);
         let after_conflict = self.phases.after_conflict(self.state.ticks);
         self.state.restart_or_rephase(after_conflict);
         if self.lemmas.len() <= self.uses.most() {
@@ -319,7 +320,7 @@ impl<'a, P: Propagator> Search<'a, P> {
         self.state.add_given(id, lits)?;
         self.units.note(lits, id);
         self.garbage.give(lits); // more given literals: compaction waits for more garbage
-        self.uses.learn(0)?; // the statistics are by number, so each clause has a place
+        self.uses.add()?; // the statistics are by number, so each clause has a place
         Ok(())
     }
 
@@ -378,18 +379,21 @@ impl<'a, P: Propagator> Search<'a, P> {
         Ok(())
     }
 
-    /// Searches for an assignment that satisfies the base and makes the cube true, with at most `limit` lemmas, and at most 2^47.
-    pub(crate) fn run(
+    /// Searches for an assignment that satisfies the base and makes the cube true, with at most `limit` lemmas, and at most 2^47. The
+    /// observer is shown the counts after each 1,000 lemmas.
+    pub(crate) fn run<O: Observer>(
         mut self,
         base: &Base,
         cube: &[Lit],
         limit: u64,
-    ) -> Result<Outcome, AllocError>
+        observer: &mut O,
+    ) -> Result<Searched, AllocError>
         requires searching { IsSearching P.is_ready P.attached base.now 0 self }
         requires assuming { IsAssuming cube.now self.state.trail.entries self.state.assumed }
         requires distinct { IsDistinct nat_eq (map var_of cube.now) }
         requires within { All (IsWithin base.now.vars) cube.now }
-        ensures { IfOk result (IsRightOutcome base.now cube.now limit) }
+        ensures right { IfOk result (λ s. IsRightOutcome base.now cube.now limit s.outcome) }
+        ensures counts { IfOk result (λ s. AreCounts base.now limit s.counts s.outcome) }
     {
         let _ = base.vars(); // tells the proof a bound of the number of clauses
         let most = limit.min(1 << 47);
@@ -398,24 +402,31 @@ impl<'a, P: Propagator> Search<'a, P> {
             let id = base.len() as u64 + 1 + learnt;
             match self.state.descend(cube) {
                 Found::Model => {
+                    let counts = self.counts(learnt);
                     let values = read_model(self.alloc, &self.state.trail)?;
-                    return Ok(Outcome::Model(values));
+                    let outcome = Outcome::Model(values);
+                    return Ok(Searched { outcome, counts });
                 }
                 Found::Assumption(literal) => {
+                    let counts = self.counts(learnt);
                     let text = self.close(Closing::Assumption(literal), id)?;
-                    return Ok(Outcome::Refuted(text));
+                    return Ok(refuted_by(text, counts));
                 }
                 Found::Clause(number) => {
                     if self.state.trail.level() <= self.state.assumed {
+                        let counts = self.counts(learnt);
                         let text = self.close(Closing::Clause(number), id)?;
-                        return Ok(Outcome::Refuted(text));
+                        return Ok(refuted_by(text, counts));
                     }
                     if learnt == most {
+                        let counts = self.counts(learnt);
                         let _ = self.state.trail.entries(); // tells the proof that no two have one variable
-                        return Ok(Outcome::Limit(self.into_packed()));
+                        let outcome = Outcome::Limit(self.into_packed());
+                        return Ok(Searched { outcome, counts });
                     }
                     self.handle_conflict(base, number, learnt)?;
                     learnt += 1;
+                    self.show_if_due(observer, learnt);
                 }
             }
         }

@@ -54,8 +54,7 @@ impl<'a, P: Propagator> Session<'a, P> {
         ensures known { IfOk result (λ s. (given : List ℕ) → ((n : ℕ) → Contains given n → n ≤ length base.now.clauses) → IsKnown given (map_of base.now) s) }
     {
         let vars = base.vars(); // tells the proof a bound of the number of clauses too
-        let mut search = Search::new(alloc, propagator, base)?;
-        search.uses.keep_more();
+        let search = Search::new(alloc, propagator, base)?;
         Ok(Session {
             search,
             top: base.len() as u64,

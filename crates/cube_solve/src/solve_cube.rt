@@ -3,9 +3,11 @@
 ghost use Rattle.std.specs.Prelude.{◌≡◌, [], map, nat_eq, All, IfOk};
 ghost use Rattle.std.specs.List.{IsDistinct};
 ghost use Rattle.dimacs.specs.logic.Literal.{IsWithin, var_of};
+ghost use Rattle.cube_solve.specs.Counts.{AreCounts};
 ghost use Rattle.cube_solve.specs.Outcome.{IsRightOutcome};
 
-use crate::outcome::Outcome;
+use crate::observer::{Observer, Unobserved};
+use crate::outcome::{Outcome, Searched};
 use crate::search::Search;
 use dimacs::{Base, Lit};
 use std::alloc::{AllocError, Global};
@@ -26,7 +28,8 @@ pub fn solve_by<P: Propagator>(
     ensures { IfOk result (IsRightOutcome base.now cube.now limit) }
 {
     let search = Search::new(alloc, propagator, base)?;
-    search.run(base, cube, limit)
+    let searched = search.run(base, cube, limit, &mut Unobserved)?;
+    Ok(searched.into_outcome())
 }
 
 /// Searches for an assignment that satisfies the base and makes the cube true. No variable stands in two literals of the cube.
@@ -42,4 +45,25 @@ pub fn solve(alloc: Global, base: &Base, cube: &[Lit], limit: u64) -> Result<Out
 {
     let mut watched = Watched::new(alloc);
     solve_by(alloc, &mut watched, base, cube, limit)
+}
+
+/// Searches as [`solve`] does, shows an observer the counts of the search after each 1,000 conflicts and at its end, and answers them
+/// beside the outcome.
+pub fn solve_observed<O: Observer>(
+    alloc: Global,
+    base: &Base,
+    cube: &[Lit],
+    limit: u64,
+    observer: &mut O,
+) -> Result<Searched, AllocError>
+    requires distinct { IsDistinct nat_eq (map var_of cube.now) }
+    requires within { All (IsWithin base.now.vars) cube.now }
+    ensures right { IfOk result (λ s. IsRightOutcome base.now cube.now limit s.outcome) }
+    ensures counts { IfOk result (λ s. AreCounts base.now limit s.counts s.outcome) }
+{
+    let mut watched = Watched::new(alloc);
+    let search = Search::new(alloc, &mut watched, base)?;
+    let searched = search.run(base, cube, limit, observer)?;
+    observer.see(&searched.counts);
+    Ok(searched)
 }

@@ -32,6 +32,8 @@ pub(crate) struct State<'a, P> {
     pub(crate) assumed: u32,
     /// The number of entries that propagation has pushed on the trail.
     pub(crate) ticks: u64,
+    /// The number of literals that were decided, which is only shown.
+    pub(crate) decisions: u64,
 }
 
 impl<P> Drop for State<'_, P> {
@@ -43,6 +45,7 @@ impl<P> Drop for State<'_, P> {
             order: _,
             assumed: _,
             ticks: _,
+            decisions: _,
         } = self;
     }
 }
@@ -72,6 +75,7 @@ impl<'a, P: Propagator> State<'a, P> {
             order,
             assumed: 0,
             ticks: 0,
+            decisions: 0,
         })
     }
 
@@ -152,9 +156,9 @@ impl<'a, P: Propagator> State<'a, P> {
         match after_conflict {
             AfterConflict::Continue => {}
             AfterConflict::Restart => self.backtrack(self.assumed),
-            AfterConflict::SwitchMode(by_scores) => {
+            AfterConflict::SwitchMode(is_flat) => {
                 self.backtrack(0);
-                self.order.switch_mode(by_scores);
+                self.order.switch_mode(is_flat);
             }
             AfterConflict::Rephase(kind) => {
                 self.backtrack(0);

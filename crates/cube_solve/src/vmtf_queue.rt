@@ -10,6 +10,12 @@ use dimacs::{Lit, Var};
 use std::alloc::{AllocError, Global};
 use watches::{Trail, Truth};
 
+/// The bits of a variable's number in a sort key of `bump`.
+const NUMBER_BITS: u32 = 28;
+
+/// The greatest age in a sort key of `bump`: the number of bumps since a variable's last one. Older variables count as of this age.
+const OLDEST: u64 = (1 << 36) - 1;
+
 /// The neighbours of a variable in the queue, by number, 0 if there is none; and the time of its last bump.
 #[derive(Clone, Copy)]
 struct Link {
@@ -31,8 +37,8 @@ pub(crate) struct VmtfQueue {
     clock: u64,
     /// The variable from which `find` looks for an unassigned one: all later variables are assigned.
     cursor: u32,
-    /// The buffer of `bump`: each variable, after its time.
-    bumped: Vec<(u64, u32)>,
+    /// The buffer of `bump`: the sort key of each variable.
+    bumped: Vec<u64>,
 }
 
 impl Drop for VmtfQueue {
@@ -108,18 +114,24 @@ impl VmtfQueue {
         }
     }
 
+    /// The sort key of the variable of this number: variables by time, the earliest bumped first, and of equal times the lower number. The
+    /// number is in the lower bits.
+    fn key_of(&self, number: u32) -> u64 {
+        let age = self.clock.saturating_sub(self.time_of(number));
+        OLDEST.saturating_sub(age) << NUMBER_BITS | number as u64
+    }
+
     /// Bumps these variables in the order of their times, so that their relative order stays.
     pub(crate) fn bump(&mut self, vars: &[Var]) -> Result<(), AllocError> {
         self.bumped.clear();
         for &var in vars {
-            let number = var.number();
-            let time = self.time_of(number);
-            self.bumped.push((time, number))?;
+            let key = self.key_of(var.number());
+            self.bumped.push(key)?;
         }
         self.bumped.sort_unstable();
         for i in 0..self.bumped.len() {
-            if let Some(&(_, number)) = self.bumped.get(i) {
-                self.move_to_end(number);
+            if let Some(&key) = self.bumped.get(i) {
+                self.move_to_end((key % (1 << NUMBER_BITS)) as u32);
             }
         }
         Ok(())

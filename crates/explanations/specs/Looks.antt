@@ -6,7 +6,7 @@ use Rattle.std.specs.Option.{option_map, option_and_then}
 use Rattle.core.specs.Char.{is_ascii_digit}
 use Rattle.memchr.specs.Find.{first_of, is_byte, matches, places}
 use Rattle.explanations.specs.declared.table.Subject.{Subject}
-use Rattle.explanations.specs.declared.table.Subject.TheVariants.{Input, Proof, Cubes, Answer, Events, Session}
+use Rattle.explanations.specs.declared.table.Subject.TheVariants.{Input, Proof, DratProof, Cubes, Answer, Events, Session}
 use Rattle.explanations.specs.declared.looks.Look.{Look}
 use Rattle.explanations.specs.declared.looks.Look.TheVariants.{Gzip, Xz, Zstd, Bzip2, ByteOrderMark, Utf16, Program, WebPage, MaxSat, Icnf, Clauses, BinaryProof, Binary, BinaryDrat, BinaryFrat, Drat, Frat, VeriPb, LineEnds, Comments}
 
@@ -75,14 +75,18 @@ abbrev pub ends_with_zero_lem : List ℕ → Bool
 ends_with_zero_lem line = pointwise nat_eq line (codes "0") || ends line (codes " 0")
 
 -- whether a line is one of a DRAT proof that adds a clause: numbers, of which the last one alone is 0
-abbrev pub is_drat_line_lem : List ℕ → Bool
-is_drat_line_lem line = list_all is_of_numbers_lem line && ends_with_zero_lem line && lacks_inner_zero_lem line
+abbrev pub is_drat_lemma_lem : List ℕ → Bool
+is_drat_lemma_lem line = list_all is_of_numbers_lem line && ends_with_zero_lem line && lacks_inner_zero_lem line
+
+-- whether a line is one of a DRAT proof that deletes a clause: the letter `d` before such numbers
+abbrev pub is_drat_deletion_lem : List ℕ → Bool
+is_drat_deletion_lem line = begins line (codes "d ") && is_drat_lemma_lem (drop 2 line)
 
 -- the kind of a file that was named as a proof and begins as one in binary form
 abbrev pub binary_look : List ℕ → List ℕ → Option Look
 binary_look head line =
     if is_some (after_three_steps_lem head) then Some BinaryDrat
-    else if begins line (codes "d ") && is_drat_line_lem (drop 2 line) then Some Drat
+    else if is_drat_deletion_lem line then Some Drat
     else if begins line (codes "a ") then Some Frat
     else None
 
@@ -94,7 +98,7 @@ text_look line =
     else if begins line (codes "pseudo-Boolean") then Some VeriPb
     else if begins line (codes "o ") || begins line (codes "l ") || begins line (codes "i ") then Some Frat
     else if begins line (codes "o") then Some BinaryFrat
-    else if is_drat_line_lem line then Some Drat
+    else if is_drat_lemma_lem line || is_drat_deletion_lem line then Some Drat
     else None
 
 -- the kind of a file that was named as an LRAT proof: in binary form if its first byte is `a` or `d`
@@ -118,6 +122,7 @@ other_look head other = if list_any (λ byte. byte == 0) head then Some BinaryPr
 abbrev pub look_as : Subject → List ℕ → List ℕ → Option Look
 look_as Proof head line = proof_look head line
 look_as Session head line = session_look head line
+look_as DratProof head line = None
 look_as Input head line = other_look head (formula_look line)
 look_as Cubes head line = other_look head None
 look_as Answer head line = other_look head None

@@ -2,7 +2,7 @@
 //!
 //! No answer of the program rests on an explanation. What a layer above may rest on: each number that a fault can have has a sentence, and
 //! no other number has; the kind of a file follows from its first bytes and from one line by a written definition; and the words of a
-//! command line without `--explain` are all others, in their order.
+//! command line without `--explain` and `--no-explain` are all others, in their order.
 #![tactic(auto)]
 
 mod asked;
@@ -14,7 +14,7 @@ mod reasons;
 mod sentences;
 mod table;
 
-pub use asked::Asked;
+pub use asked::{Asked, Explaining};
 pub use lines::{Fault, File, Unit, is_of_clause, unread_number};
 pub use looks::{Look, look_of};
 pub use names::{in_command, shown};

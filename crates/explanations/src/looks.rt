@@ -4,7 +4,7 @@
 ghost use Rattle.std.specs.Prelude.{◌≡◌};
 ghost use Rattle.std.specs.List.{list_all};
 ghost use Rattle.std.specs.Option.{option_copied};
-ghost use Rattle.explanations.specs.Looks.{after_step_lem, after_three_steps_lem, after_zero_lem, binary_look, ends_with_zero_lem, formula_look, is_drat_line_lem, is_of_numbers_lem, lacks_inner_zero_lem, look, mark, packing, proof_look, session_look, text_look};
+ghost use Rattle.explanations.specs.Looks.{after_step_lem, after_three_steps_lem, after_zero_lem, binary_look, ends_with_zero_lem, formula_look, is_drat_deletion_lem, is_drat_lemma_lem, is_of_numbers_lem, lacks_inner_zero_lem, look, mark, packing, proof_look, session_look, text_look};
 
 use crate::sentences::Told;
 use crate::table::Subject;
@@ -93,14 +93,17 @@ impl Look {
                 "It is binary, and a text is wanted.",
                 "Ask the solver for text (CaDiCaL: `--no-binary`; its interface: `binary=0`).",
             ),
-            Look::BinaryDrat => ("It is binary DRAT.", "`drat-trim INPUT FILE -L NEW`"),
+            Look::BinaryDrat => (
+                "It is binary DRAT.",
+                "`satcluster check --drat INPUT FILE` checks it; `satcluster elaborate INPUT FILE NEW` makes LRAT of it.",
+            ),
             Look::BinaryFrat => (
                 "It is binary FRAT.",
                 "`cadical --lrat --no-binary INPUT NEW` writes LRAT.",
             ),
             Look::Drat => (
                 "It is DRAT as text: it has no numbers and no hints.",
-                "`drat-trim INPUT FILE -L NEW`",
+                "`satcluster check --drat INPUT FILE` checks it; `satcluster elaborate INPUT FILE NEW` makes LRAT of it.",
             ),
             Look::Frat => (
                 "It is FRAT or LIDRUP.",
@@ -240,11 +243,19 @@ fn ends_with_zero(line: &[u8]) -> bool
     line == b"0".as_slice() || line.ends_with(b" 0")
 }
 
-/// Whether a line is one list of numbers that ends with 0, as the lines of DRAT are; a line of LRAT has two.
-fn is_drat_line(line: &[u8]) -> bool
-    ensures { result ≡ is_drat_line_lem line.now }
+/// Whether a line is one list of numbers that ends with 0, as the lemmas of DRAT are; a line of LRAT has two.
+fn is_drat_lemma(line: &[u8]) -> bool
+    ensures { result ≡ is_drat_lemma_lem line.now }
 {
     has_numbers_alone(line) && ends_with_zero(line) && lacks_inner_zero(line)
+}
+
+/// Whether a line is the letter `d` and one list of numbers that ends with 0, as the deletions of DRAT are; a deletion of LRAT begins with a
+/// number.
+fn is_drat_deletion(line: &[u8]) -> bool
+    ensures { result ≡ is_drat_deletion_lem line.now }
+{
+    line.starts_with(b"d ") && is_drat_lemma(&line[2..])
 }
 
 /// The kind of a file that was named as a proof and begins as one in binary form, by its first bytes and its first line; None if they do
@@ -255,7 +266,7 @@ fn binary_look_of(head: &[u8], line: &[u8]) -> Option<Look>
     if after_three_steps(head).is_some() {
         return Some(Look::BinaryDrat);
     }
-    if line.starts_with(b"d ") && is_drat_line(&line[2..]) {
+    if is_drat_deletion(line) {
         return Some(Look::Drat);
     }
     if line.starts_with(b"a ") {
@@ -284,7 +295,7 @@ fn text_look_of(line: &[u8]) -> Option<Look>
     if line.starts_with(b"o") {
         return Some(Look::BinaryFrat);
     }
-    if is_drat_line(line) {
+    if is_drat_lemma(line) || is_drat_deletion(line) {
         return Some(Look::Drat);
     }
     None
@@ -325,6 +336,7 @@ pub fn look_of(subject: Subject, head: &[u8], line: &[u8]) -> Option<Look>
     match subject {
         Subject::Proof => proof_look_of(head, line),
         Subject::Session => session_look_of(head, line),
+        Subject::DratProof => None,
         _ if head.contains(&0) => Some(Look::BinaryProof),
         Subject::Input => formula_look_of(line),
         _ => None,

@@ -29,6 +29,8 @@ pub enum Other {
     NoSplit,
     /// The formula of the leaf is above the limits.
     LeafAboveLimit,
+    /// A DRAT proof that is lifted needs a RAT lemma.
+    NeedsRat,
     /// No listener or connection can be opened.
     NoLinks,
     /// A file cannot be written.
@@ -54,6 +56,7 @@ impl Other {
             "c no such leaf" => Some(Other::NoLeaf),
             "c cannot split" => Some(Other::NoSplit),
             "c leaf above limit" => Some(Other::LeafAboveLimit),
+            "c proof needs RAT" => Some(Other::NeedsRat),
             "c cannot open links" => Some(Other::NoLinks),
             "c cannot write proof" => Some(Other::ProofUnwritten),
             "c no memory" => Some(Other::NoMemory),
@@ -97,6 +100,10 @@ impl Other {
             Other::LeafAboveLimit => (
                 "The leaf's formula would be above the limits of a formula.",
                 "Name `--large`; or `satcluster refute` searches under it without printing it.",
+            ),
+            Other::NeedsRat => (
+                "A lemma that is needed is RAT: it does not follow by unit propagation.",
+                "Ask the solver for a proof without such steps (Kissat: `--no-factor`).",
             ),
             Other::NoLinks => (
                 "A port cannot be opened, or nobody listens at it.",

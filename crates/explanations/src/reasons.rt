@@ -19,7 +19,7 @@ pub enum Reason {
     NotTogether,
     /// `-` is standard input, which cannot be read here.
     StandardInput,
-    /// Neither a leaf nor `--lidrup` is named; or one end of a block of leaves alone.
+    /// Neither a leaf nor `--lidrup` is named; or one end of a block of leaves alone; or `--drat` not with one leaf.
     LeafOrLidrup,
     /// The file is not there.
     Absent,
@@ -77,7 +77,7 @@ impl Reason {
             ),
             Reason::LeafOrLidrup => (
                 "PROOF is one of a leaf, or a LIDRUP text for all leaves or for a block.",
-                "Name `--leaf I`, `--lidrup`, or `--lidrup --leaf I --to J`.",
+                "Name `--leaf I`, with or without `--drat`, `--lidrup`, or `--lidrup --leaf I --to J`.",
             ),
             Reason::Absent => ("There is no file FILE.", "Name a file that is there."),
             Reason::Folder => ("FILE is a folder.", "Name a file in it."),

@@ -4,7 +4,7 @@
 
 ghost use Rattle.std.specs.Prelude.{◌↔◌, IsSome};
 ghost use Rattle.explanations.specs.Table.{HasNumber};
-ghost use Rattle.explanations.specs.declared.table.Subject.TheVariants.{Answer, Cubes, Events, Input, Proof, Session};
+ghost use Rattle.explanations.specs.declared.table.Subject.TheVariants.{Answer, Cubes, DratProof, Events, Input, Proof, Session};
 
 use crate::sentences::{MEMORY, Told, row};
 
@@ -15,6 +15,8 @@ pub enum Subject {
     Input,
     /// An LRAT proof, or a log.
     Proof,
+    /// A DRAT proof.
+    DratProof,
     /// A splitting tree, or a list of cubes.
     Cubes,
     /// The output of a solver.
@@ -108,7 +110,7 @@ fn of_proof(number: u64) -> Option<Told>
         ),
         8 => row(
             "The hints reach no conflict.",
-            "It is a proof of another formula, or wrong; a DRAT proof has no hints at all: `drat-trim f.cnf f.drat -L f.lrat` finds them.",
+            "It is a proof of another formula, or wrong; a DRAT proof has no hints at all: `satcluster check --drat f.cnf f.drat` finds them.",
         ),
         9 => row(
             "A clause that holds the negation of the lemma's first literal is not named as a candidate.",
@@ -139,6 +141,39 @@ fn of_proof(number: u64) -> Option<Told>
         17 => row(
             "The last line adds no clause that closes the leaf.",
             "The log was cut, or is one of another leaf: run the leaf again.",
+        ),
+        _ => None,
+    }
+}
+
+/// The sentences of the faults of a DRAT proof; None for a number that no such fault has.
+fn of_drat(number: u64) -> Option<Told>
+    ensures { IsSome result ↔ HasNumber DratProof number }
+{
+    match number {
+        1 => row(
+            "A byte cannot stand where it does in a DRAT proof.",
+            "An LRAT proof is checked by `satcluster check` without `--drat`; for a FRAT proof have the solver write DRAT.",
+        ),
+        2 => row(
+            "A variable is above 2,000,000, or twice the formula's variables if that is more.",
+            SAME,
+        ),
+        3 => row("The proof ends within a step.", CUT),
+        4 => row("The file is empty.", CUT),
+        5 => row("There was not memory enough for the proof.", MEMORY),
+        6 => row("The lemma is needed, and is neither RUP nor RAT.", SAME),
+        7 => row(
+            "After the last step propagation finds no conflict: the proof does not refute the formula.",
+            "The solver was cut off, or the proof is of another formula.",
+        ),
+        8 => row(
+            "The formula and the proof have more clauses or literals than this program can hold.",
+            "Have the solver write LRAT, which is checked step by step.",
+        ),
+        9 => row(
+            "The LRAT proof that was made is refused, so nothing is known of the DRAT proof.",
+            "This is a fault of satcluster: report it, with both files.",
         ),
         _ => None,
     }
@@ -314,6 +349,7 @@ pub fn explain_fault(subject: Subject, number: u64) -> Option<Told>
     match subject {
         Subject::Input => of_input(number),
         Subject::Proof => of_proof(number),
+        Subject::DratProof => of_drat(number),
         Subject::Cubes => of_cubes(number),
         Subject::Answer => of_answer(number),
         Subject::Events => of_events(number),

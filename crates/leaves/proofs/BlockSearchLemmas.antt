@@ -105,12 +105,12 @@ module _ {P : Type 0} where
     closes = tt;
   }
 
-leaf_there : (leaves : List Cube) (n : ℕ) → 0 < n → n ≤ length leaves → (q : Cube) × (leaf_at leaves n ≡ Some q)
+pub leaf_there : (leaves : List Cube) (n : ℕ) → 0 < n → n ≤ length leaves → (q : Cube) × (leaf_at leaves n ≡ Some q)
 leaf_there leaves zero low up = absurd (omega arith)
 leaf_there leaves (suc i) low up = (get_or leaves i [], slice_get-get_or leaves i [] (omega arith))
 
 module _ {P : Type 0} (F : Cnf) (leaves : List Cube) (first n : ℕ) (s : settings.SearchOptions) (old : BlockSearch P) (done : HasSearchedUpTo F leaves first n s old) where
-  logged : IsLogOf F leaves s.limit first done.endings old.searches.log
+  pub logged : IsLogOf F leaves s.limit first done.endings old.searches.log
   logged = record {
     spells = done.stands.spells;
     is_log = done.stands.is_log;

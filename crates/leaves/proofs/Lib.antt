@@ -13,3 +13,4 @@ pub mod SplitLemmas
 pub mod UnitLemmas
 pub mod BlockReportLemmas
 pub mod BlockSearchLemmas
+pub mod GrowingLemmas

@@ -1,5 +1,5 @@
 -- The formula of a leaf of a splitting tree.
-use Rattle.std.specs.Prelude.{◌≡◌, ℕ, zero, suc, List, [], ◌∷◌, ◌++◌, Option, Some, None, map, codes, slice_get}
+use Rattle.std.specs.Prelude.{◌≡◌, ℕ, zero, suc, List, [], ◌∷◌, ◌++◌, Option, Some, None, Result, Ok, Err, map, codes, slice_get}
 use Rattle.dimacs.specs.logic.Cnf.{Cnf, FitsIn}
 use Rattle.dimacs.specs.logic.Limits.{Limits}
 use Rattle.dimacs.specs.text.Grammar.{SpellsWithin, spelling}
@@ -47,3 +47,15 @@ PrintsLeafOf L F (Some q) r = PrintsFormula L (leaf_of q F) r
 -- what `leaf` prints, within these limits, of the leaf of a number, from 1
 abbrev pub PrintsLeaf : Limits → Cnf → List Cube → ℕ → Report → Type 0
 PrintsLeaf L F leaves number r = PrintsLeafOf L F (leaf_at leaves number) r
+
+-- what comes of the formula of a leaf, within these limits, for its cube, or if there is none: the formula, which fits into the limits, or
+-- the report that says why there is none
+abbrev pub GivesLeafOf : Limits → Cnf → Option Cube → Result Cnf Report → Type 0
+GivesLeafOf L F None (Ok G) = ⊥
+GivesLeafOf L F None (Err r) = Prints 1 no_leaf_text r
+GivesLeafOf L F (Some q) (Ok G) = (G ≡ leaf_of q F) × FitsIn L (leaf_of q F)
+GivesLeafOf L F (Some q) (Err r) = ¬ (FitsIn L (leaf_of q F)) × Prints 1 above_limit_text r
+
+-- what comes of the formula, within these limits, of the leaf of a number, from 1
+abbrev pub GivesLeaf : Limits → Cnf → List Cube → ℕ → Result Cnf Report → Type 0
+GivesLeaf L F leaves number found = GivesLeafOf L F (leaf_at leaves number) found

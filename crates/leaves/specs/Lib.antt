@@ -9,4 +9,5 @@ pub mod SplitReader
 pub mod LeafSearch
 pub mod LeafSplit
 pub mod BlockSearch
+pub mod GrowingLog
 pub mod inner

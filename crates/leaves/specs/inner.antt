@@ -5,3 +5,4 @@ pub mod SplitReader
 pub mod SplitVariable
 pub mod BlockReport
 pub mod BlockSearch
+pub mod GrowingSearch

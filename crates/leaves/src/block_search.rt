@@ -3,6 +3,7 @@
 ghost use Rattle.std.specs.Prelude.{◌≡◌, ◌⊎◌, ◌<◌, ◌≤◌, [], ◌++◌, true, length, Some, None, IfOk, OnOk, codes, decimal, if◌then◌else◌};
 ghost use Rattle.cube_solve.specs.Session.{IsReady, vars_of};
 ghost use Rattle.dimacs.specs.text.Answer.{satisfied_lines};
+ghost use Rattle.dimacs.specs.text.Grammar.{Begins};
 ghost use Rattle.leaves.specs.LeafSearch.{Hands, shown};
 ghost use Rattle.leaves.specs.BlockSearch.{FindsModel, RefutesLeaves, SearchesAll};
 ghost use Rattle.leaves.specs.inner.BlockSearch.{NotesFound, HasSearched, SearchesLeaf};
@@ -48,7 +49,7 @@ fn put_leaf_line(out: &mut Vec<u8>, leaf: u64, end: &[u8], quiet: bool) -> Resul
 
 impl<'a, P: Propagator> BlockSearch<'a, P> {
     /// A session over the formula that has searched no leaf.
-    fn of(
+    pub(crate) fn of(
         alloc: Global,
         propagator: &'a mut P,
         split: &Split,
@@ -93,7 +94,7 @@ impl<'a, P: Propagator> BlockSearch<'a, P> {
 
     /// Searches under the leaf of this number, from 1. Answers the assignment that the search finds; None if the leaf is closed, the search
     /// reaches its limit, or there is no such leaf.
-    fn search_leaf(
+    pub(crate) fn search_leaf(
         &mut self,
         alloc: Global,
         split: &Split,
@@ -104,6 +105,7 @@ impl<'a, P: Propagator> BlockSearch<'a, P> {
         requires vars { vars_of self.old.searches.session ≡ split.now.formula.vars }
         ensures ready { OnOk result (IsReady P.is_ready P.attached self.new.searches.session) }
         ensures vars { OnOk result (vars_of self.new.searches.session ≡ split.now.formula.vars) }
+        ensures longer { OnOk result (Begins self.old.searches.log self.new.searches.log) }
         ensures search_leaf { IfOk result (SearchesLeaf split.now.formula split.now.tree leaf search.now self.old self.new) }
     {
         let Some(cube) = cube_of(&split.tree, leaf) else {
@@ -131,7 +133,11 @@ impl<'a, P: Propagator> BlockSearch<'a, P> {
 }
 
 /// The report of an assignment: status 10, and the `v` lines if `witness`.
-fn satisfied(alloc: Global, values: &Assignment, witness: bool) -> Result<Report, AllocError>
+pub(crate) fn satisfied(
+    alloc: Global,
+    values: &Assignment,
+    witness: bool,
+) -> Result<Report, AllocError>
     ensures { IfOk result (Hands 10 (satisfied_lines values.now witness) None) }
 {
     let mut report = Report::of(alloc, b"", 10)?;

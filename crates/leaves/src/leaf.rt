@@ -1,10 +1,10 @@
 //! `leaf`: prints the formula of a leaf, for any solver.
 
-ghost use Rattle.std.specs.Prelude.{◌≡◌, ◌≤◌, ◌∷◌, [], map, nat_eq, length, IfOk, IfSome, option_map, All};
+ghost use Rattle.std.specs.Prelude.{◌≡◌, ◌≤◌, ◌∷◌, [], map, nat_eq, length, IfOk, IfSome, Some, option_map, All};
 ghost use Rattle.std.specs.List.{IsDistinct};
 ghost use Rattle.dimacs.specs.logic.Cnf.{AreWithin};
 ghost use Rattle.dimacs.specs.logic.Literal.{IsWithin, var_of};
-ghost use Rattle.leaves.specs.Leaf.{PrintsFormula, PrintsLeaf, PrintsText, Prints, above_limit_text, leaf_at, leaf_of, no_leaf_text};
+ghost use Rattle.leaves.specs.Leaf.{GivesLeaf, GivesLeafOf, PrintsLeaf, PrintsText, Prints, above_limit_text, leaf_at, leaf_of, no_leaf_text};
 
 use crate::split::Split;
 use dimacs::{Builder, Extension, Formula, Limits, Lit};
@@ -51,21 +51,38 @@ fn formula_report(alloc: Global, formula: &Formula) -> Result<Report, AllocError
     Ok(report)
 }
 
-/// The report of the formula of a leaf, status 0; or `c leaf above limit`, status 1, if that formula is above one of these limits.
-fn printed(
+/// The formula under a cube; or, as the inner error, the report `c leaf above limit`, status 1, if that formula is above one of these limits.
+fn formula_under(
     alloc: Global,
     limits: Limits,
     formula: &Formula,
     cube: &[Lit],
-) -> Result<Report, AllocError>
+) -> Result<Result<Formula, Report>, AllocError>
     requires within { All (IsWithin formula.now.vars) cube.now }
     requires short { length cube.now ≤ 64 }
-    ensures { IfOk result (PrintsFormula limits (leaf_of cube.now formula.now)) }
+    ensures { IfOk result (GivesLeafOf limits formula.now (Some cube.now)) }
 {
     let units = units(alloc, formula.vars(), cube)?;
     match formula.extended_within(alloc, limits, &units)? {
-        None => Report::of(alloc, b"c leaf above limit\n", 1),
-        Some(leaf) => formula_report(alloc, &leaf),
+        None => Ok(Err(Report::of(alloc, b"c leaf above limit\n", 1)?)),
+        Some(leaf) => Ok(Ok(leaf)),
+    }
+}
+
+/// The formula of the leaf of this number, from 1: the formula's clauses, and then a unit clause for each literal of the cube. If there is
+/// no such leaf, or its formula is above these limits, the inner error is the report that says so, status 1. The outer error is want of
+/// memory.
+pub fn leaf_formula(
+    alloc: Global,
+    limits: Limits,
+    split: &Split,
+    leaf: u64,
+) -> Result<Result<Formula, Report>, AllocError>
+    ensures { IfOk result (GivesLeaf limits split.now.formula split.now.tree leaf) }
+{
+    match cube_of(&split.tree, leaf) {
+        None => Ok(Err(Report::of(alloc, NO_LEAF, 1)?)),
+        Some(cube) => formula_under(alloc, limits, &split.formula, cube),
     }
 }
 
@@ -80,8 +97,8 @@ pub fn run_leaf(
 ) -> Result<Report, AllocError>
     ensures { IfOk result (PrintsLeaf limits split.now.formula split.now.tree leaf) }
 {
-    match cube_of(&split.tree, leaf) {
-        None => Report::of(alloc, NO_LEAF, 1),
-        Some(cube) => printed(alloc, limits, &split.formula, cube),
+    match leaf_formula(alloc, limits, split, leaf)? {
+        Ok(formula) => formula_report(alloc, &formula),
+        Err(report) => Ok(report),
     }
 }

@@ -8,6 +8,7 @@ ghost use Rattle.dimacs.specs.logic.ClauseMap.{ClauseMap, live_in, map_of};
 ghost use Rattle.dimacs.specs.logic.Cnf.{Cnf};
 ghost use Rattle.dimacs.specs.logic.Literal.{Clause, IsWithin, negation, var_of};
 ghost use Rattle.dimacs.specs.logic.Propagation.{Rup};
+ghost use Rattle.dimacs.specs.text.Grammar.{Begins};
 ghost use Rattle.leaves.specs.inner.BlockSearch.{IsAnswered, IsWithinLineLimits, HasFound, HasSearched};
 ghost use Rattle.lrat_text.specs.Grammar.{IsClauseNumber};
 ghost use Rattle.lrat_text.specs.Runs.{after_steps};
@@ -141,6 +142,7 @@ impl<'a, P: Propagator> SearchSession<'a, P> {
         requires within { All (IsWithin (vars_of self.old.session)) cube.now }
         ensures ready { OnOk result (IsReady P.is_ready P.attached self.new.session) }
         ensures vars { OnOk result (vars_of self.new.session ≡ vars_of self.old.session) }
+        ensures longer { OnOk result (Begins self.old.log self.new.log) }
         ensures short { IfOk result (IsWithinLineLimits (vars_of self.old.session)) }
         ensures answered { IfOk result (λ answer. (F : Cnf) (closing : List Clause) (steps : List Step) → HasSearched F closing steps self.old → IsAnswered F closing steps cube.now limit answer self.new) }
     {
@@ -157,6 +159,7 @@ impl<'a, P: Propagator> SearchSession<'a, P> {
         requires hints { All IsClauseNumber failure.now.hints.items }
         ensures ready { OnOk result (IsReady P.is_ready P.attached self.new.session) }
         ensures vars { OnOk result (vars_of self.new.session ≡ vars_of self.old.session) }
+        ensures longer { OnOk result (Begins self.old.log self.new.log) }
         ensures stands { OnOk result ((F : Cnf) (closing : List Clause) (steps : List Step) → HasSearched F closing steps self.old
             → Rup (live_in (after_steps (map_of F) steps)) (map negation failure.now.core.items) failure.now.hints.items
             → HasSearched F (closing ++ map negation failure.now.core.items ∷ []) (steps ++ Add (last_of self.new.session) (map negation failure.now.core.items) failure.now.hints.items [] ∷ []) self.new) }
@@ -180,6 +183,7 @@ impl<'a, P: Propagator> SearchSession<'a, P> {
         requires distinct { IsDistinct nat_eq (map var_of cube.now) }
         ensures ready { OnOk result (IsReady P.is_ready P.attached self.new.session) }
         ensures vars { OnOk result (vars_of self.new.session ≡ vars_of self.old.session) }
+        ensures longer { OnOk result (Begins self.old.log self.new.log) }
         ensures searched { IfOk result (λ found. (F : Cnf) (closing : List Clause) (steps : List Step) → HasSearched F closing steps self.old → HasFound F closing steps cube.now limit found self.new) }
     {
         let answer = self.ask(alloc, cube, limit)?;

@@ -14,5 +14,6 @@ mod shortened_proof;
 mod text_blocks;
 mod trimmer;
 
+pub use recheck::is_accepted;
 pub use report::trim_report;
 pub use trimmer::{Trimmed, Trimmer, trim};

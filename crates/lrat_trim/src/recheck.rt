@@ -24,11 +24,7 @@ fn check_packed(alloc: Global, formula: Formula, text: &PackedText) -> Result<()
 }
 
 /// Tells whether a text is an accepted proof of the formula.
-pub(crate) fn is_accepted(
-    alloc: Global,
-    formula: Formula,
-    text: &PackedText,
-) -> Result<bool, AllocError>
+pub fn is_accepted(alloc: Global, formula: Formula, text: &PackedText) -> Result<bool, AllocError>
     ensures { IfOk result (λ is. OnTrue is (Accepts formula text.now)) }
 {
     proof_fault_is_exact();

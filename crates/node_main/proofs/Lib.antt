@@ -1,6 +1,3 @@
-pub mod CheckLemmas
-pub mod FormLemmas
-pub mod StageLemmas
 pub mod ServiceLemmas
 pub mod SplitLemmas
 pub mod StartLemmas

@@ -10,7 +10,7 @@ use Rattle.reports.specs.declared.report.Report.{Report}
 use Rattle.node_main.specs.Decisions.{Decides}
 use Rattle.node_main.specs.ServiceReports.{report_of, report_with}
 use Rattle.node_main.specs.SolveReports.{Solves}
-use Rattle.node_main.specs.Truth.{IsTrueReport}
+use Rattle.proof_check.specs.Truth.{IsTrueReport}
 use Rattle.node_main.specs.RunStart.{Starts}
 use Rattle.node_main.specs.declared.commands.service.Service.{Service}
 use Rattle.node_main.specs.declared.formula_split.Split.TheVariants.{By}

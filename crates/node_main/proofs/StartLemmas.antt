@@ -8,6 +8,7 @@ use Rattle.dimacs.specs.text.Grammar.{SpellsWithin}
 use Rattle.dimacs.specs.declared.fault.DimacsFault.{DimacsFault}
 use Rattle.dimacs.proofs.SpellingLemmas.{found_spells_within}
 use Rattle.icnf.specs.Leaves.{Cube}
+use Rattle.proof_check.proofs.CheckLemmas.{spelled as input_spelled}
 use Rattle.node_main.specs.Decisions.{Decides}
 use Rattle.node_main.specs.SolveReports.{Solves, Works}
 use Rattle.node_main.specs.FormulaSplit.{StaysInside, StaysNarrow}
@@ -19,9 +20,9 @@ use Rattle.node_main.specs.declared.formula_split.Split.TheVariants.{By}
 use Rattle.node_main.specs.declared.start.Start.{Start}
 use Rattle.node_main.specs.declared.start.Start.TheVariants.{With}
 
--- the formula that was found is the one that the input spells
+-- the same, under a name that this crate's tactics can call
 pub spelled : (L : Limits) (input : List ℕ) (r : Result Cnf DimacsFault) (F : Cnf) → AreNoMore L large → r ≡ Ok F → GivesFormula r (parse_within L input) → SpellsWithin L input F
-spelled L input r F no_more is h = subst (λ (x : Result Cnf DimacsFault). IfOk x (λ f. SpellsWithin L input f)) is (found_spells_within L input r no_more h)
+spelled = input_spelled
 
 pub started_solves : {E : Type 0} (r : Result Report E) (L : Limits) (input : List ℕ) (cubes : Option (List ℕ)) (o : Options) (s : Start) (opened : OpenedFormula) (leaves : List Cube)
     → s ≡ With opened leaves → Starts L input cubes o s → IfOk r (Decides opened.formula o) → IfOk r (Solves L input cubes o)

@@ -6,10 +6,10 @@ use Rattle.dimacs.specs.logic.Limits.{Limits}
 use Rattle.dimacs.specs.text.Grammar.{SpellsWithin}
 use Rattle.lrat_text.specs.Proof.{Accepts}
 use Rattle.lrat_check.specs.Soundness.{Soundness, IsUnsatisfiable}
-use Rattle.node_main.specs.inner.Checks.{IsTextReport}
+use Rattle.proof_check.specs.inner.Checks.{IsTextReport}
 use Rattle.node_main.specs.Decisions.{Decides}
 use Rattle.node_main.specs.SolveReports.{Answers, IsRefused, Solves, Works}
-use Rattle.node_main.specs.Truth.{SpellsUnsatisfiable, IsTrueReport}
+use Rattle.proof_check.specs.Truth.{SpellsUnsatisfiable, IsTrueReport}
 use Rattle.command_line.specs.declared.options.Options.{Options}
 use Rattle.node_main.specs.declared.formula_split.Split.{Split}
 use Rattle.node_main.specs.declared.formula_split.Split.TheVariants.{By, Faulty, OtherFormula}
@@ -55,9 +55,3 @@ pub works_true : {E : Type 0} → Soundness → (L : Limits) (input : List ℕ) 
 works_true sound L input o (Ok r) (inl (F, spells, is)) = decides_true sound L input F spells o r is
 works_true sound L input o (Ok r) (inr (f, parsed, is)) = refused_true L input _ o r is
 works_true sound L input o (Err fault) is = tt
-
--- what is verified is unsatisfiable
-pub verified_true : {E : Type 0} → Soundness → (L : Limits) (input proof : List ℕ) (r : Result Report E)
-    → IfOk r (IsTextReport L input proof) → IfOk r (λ (x : Report). (x.status ≡ 0) → SpellsUnsatisfiable L input)
-verified_true sound L input proof (Ok x) is = λ zero. let h = is.verified.0 zero in (h.0, h.1, sound h.0 proof h.2)
-verified_true sound L input proof (Err fault) is = tt

@@ -3,14 +3,10 @@ pub mod Decisions
 pub mod DrillWords
 pub mod DrillReports
 pub mod DrillSchedule
-pub mod Forms
-pub mod ProofChecks
 pub mod ReadLimits
-pub mod Reports
 pub mod RunCalls
 pub mod ServiceReports
 pub mod SolveReports
 pub mod FormulaSplit
 pub mod RunStart
-pub mod Truth
 pub mod inner

@@ -1,4 +1,3 @@
 -- What only private contracts, invariants and proofs name. Nothing here is to be believed.
-pub mod Checks
 pub mod VerdictKinds
 pub mod Tallies

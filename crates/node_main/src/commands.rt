@@ -1,6 +1,5 @@
 //! The commands, one module each.
 
-pub(crate) mod check;
 pub(crate) mod cubes;
 pub(crate) mod drill;
 pub(crate) mod serve;

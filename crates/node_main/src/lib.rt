@@ -12,7 +12,6 @@ mod start;
 mod verdict_report;
 
 pub use command_line::{Command, Options, Request, USUAL, UsageFault, command, command_of};
-pub use commands::check::{ProofCheck, run_check};
 pub use commands::cubes::{run_cubes, run_cubes_within};
 pub use commands::drill::{draw, drill, run_drill, worked_turns};
 pub use commands::serve::{run_serve, run_serve_from};

@@ -1,7 +1,7 @@
 //! What `check` prints.
 
 use dimacs::{Limits, read_within};
-use node_main::{ProofCheck, run_check};
+use proof_check::{ProofCheck, run_check};
 use std::alloc::Global;
 use std::process::Abort;
 

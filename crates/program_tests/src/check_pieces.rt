@@ -4,7 +4,7 @@ use crate::check::{FOUR, Row};
 use dimacs::{Formula, read};
 use lrat_check::{CheckFault, Checker, StreamChecker, check, check_pieces};
 use lrat_text::{LineBuffer, Step, StepReader, TextFault, read_pieces, take_lines};
-use node_main::ProofCheck;
+use proof_check::ProofCheck;
 use std::alloc::{AllocError, Global};
 use std::process::Abort;
 

@@ -56,6 +56,42 @@ fn helps(rt: &impl Abort, alloc: Global, line: &str, part: &str) {
 }
 
 #[test]
+fn a_decision_with_its_defaults_and_with_all_its_words(rt: HostRuntime) {
+    let plain = Request::Decide {
+        input: "f.cnf",
+        proof: None,
+        limit: None,
+        progress: false,
+        stats: false,
+        printing: PRINTED,
+        binary: false,
+    };
+    asks(&rt, rt.alloc(), "satcluster decide f.cnf", plain);
+    let full = Request::Decide {
+        input: "f.cnf",
+        proof: Some("f.lrat"),
+        limit: Some(1_000_000_000),
+        progress: true,
+        stats: true,
+        printing: Printing {
+            quiet: true,
+            witness: false,
+        },
+        binary: true,
+    };
+    let words =
+        "satcluster decide --large --progress --stats --limit 1000000000 --binary -q -n f.cnf f.lrat";
+    asks(&rt, rt.alloc(), words, full);
+    refuses(&rt, rt.alloc(), "satcluster decide --limit 0 f.cnf");
+    refuses(
+        &rt,
+        rt.alloc(),
+        "satcluster decide --limit 1000000001 f.cnf",
+    );
+    refuses(&rt, rt.alloc(), "satcluster decide --depth 0 f.cnf");
+}
+
+#[test]
 fn a_solve_with_its_defaults_and_with_all_its_words(rt: HostRuntime) {
     let plain = Request::Solve {
         input: "f.cnf",
@@ -196,12 +232,16 @@ fn a_check_and_cubes_and_a_drill(rt: HostRuntime) {
         input: "f.cnf",
         proof: "f.lrat",
         session: false,
+        drat: false,
+        progress: false,
     };
     asks(&rt, alloc, "satcluster check f.cnf f.lrat", check);
     let session = Request::Check {
         input: "f.icnf",
         proof: "f.lidrup",
         session: true,
+        drat: false,
+        progress: false,
     };
     asks(
         &rt,
@@ -236,6 +276,42 @@ fn a_check_and_cubes_and_a_drill(rt: HostRuntime) {
         "satcluster drill --turns 0 --seed 0 f.cnf",
         none,
     );
+}
+
+#[test]
+fn an_elaboration_and_a_check_of_drat(rt: HostRuntime) {
+    let alloc = rt.alloc();
+    let plain = Request::Elaborate {
+        input: "f.cnf",
+        drat: "f.drat",
+        lrat: "f.lrat",
+        progress: false,
+        binary: false,
+    };
+    asks(
+        &rt,
+        alloc,
+        "satcluster elaborate f.cnf f.drat f.lrat",
+        plain,
+    );
+    let full = Request::Elaborate {
+        input: "f.cnf",
+        drat: "f.drat",
+        lrat: "f.lrat",
+        progress: true,
+        binary: true,
+    };
+    let words = "satcluster elaborate --binary --progress f.cnf f.drat f.lrat";
+    asks(&rt, alloc, words, full);
+    let check = Request::Check {
+        input: "f.cnf",
+        proof: "f.drat",
+        session: false,
+        drat: true,
+        progress: true,
+    };
+    let words = "satcluster check --progress --drat f.cnf f.drat";
+    asks(&rt, alloc, words, check);
 }
 
 #[test]
@@ -322,6 +398,7 @@ fn a_lift_of_a_leaf_or_of_all(rt: HostRuntime) {
         leaf: Some(1),
         to: None,
         lidrup: false,
+        drat: false,
         proof: "l.lrat",
         fragment: "l.frag",
         binary: false,
@@ -338,6 +415,7 @@ fn a_lift_of_a_leaf_or_of_all(rt: HostRuntime) {
         leaf: None,
         to: None,
         lidrup: true,
+        drat: false,
         proof: "f.lidrup",
         fragment: "f.frag",
         binary: true,
@@ -354,6 +432,7 @@ fn a_lift_of_a_leaf_or_of_all(rt: HostRuntime) {
         leaf: Some(7),
         to: Some(9),
         lidrup: true,
+        drat: false,
         proof: "f.lidrup",
         fragment: "f.frag",
         binary: false,
@@ -371,6 +450,7 @@ fn a_lift_of_a_leaf_or_of_all(rt: HostRuntime) {
         leaf: Some(7),
         to: None,
         lidrup: true,
+        drat: false,
         proof: "f.lidrup",
         fragment: "f.frag",
         binary: false,
@@ -384,12 +464,53 @@ fn a_lift_of_a_leaf_or_of_all(rt: HostRuntime) {
 }
 
 #[test]
+fn a_lift_of_a_drat_proof(rt: HostRuntime) {
+    let alloc = rt.alloc();
+    let drat = Request::Lift {
+        input: "f.cnf",
+        cubes: "f.icnf",
+        leaf: Some(7),
+        to: None,
+        lidrup: false,
+        drat: true,
+        proof: "l.drat",
+        fragment: "l.frag",
+        binary: true,
+    };
+    asks(
+        &rt,
+        alloc,
+        "satcluster lift --leaf 7 --drat --binary --cubes f.icnf f.cnf l.drat l.frag",
+        drat,
+    );
+    // The program refuses a DRAT proof of several leaves.
+    let all_words = Request::Lift {
+        input: "f.cnf",
+        cubes: "f.icnf",
+        leaf: None,
+        to: Some(9),
+        lidrup: true,
+        drat: true,
+        proof: "f.drat",
+        fragment: "f.frag",
+        binary: false,
+    };
+    asks(
+        &rt,
+        alloc,
+        "satcluster lift --drat --lidrup --to 9 --cubes f.icnf f.cnf f.drat f.frag",
+        all_words,
+    );
+}
+
+#[test]
 fn a_refutation_with_its_defaults_and_with_all_its_words(rt: HostRuntime) {
     let plain = Request::Refute {
         input: "f.cnf",
         cubes: "f.icnf",
         leaf: 3,
         to: None,
+        grow: false,
         limit: 140_737_488_355_328,
         fragment: None,
         printing: PRINTED,
@@ -406,6 +527,7 @@ fn a_refutation_with_its_defaults_and_with_all_its_words(rt: HostRuntime) {
         cubes: "f.icnf",
         leaf: 3,
         to: Some(9),
+        grow: true,
         limit: 1,
         fragment: Some("l.frag"),
         printing: Printing {
@@ -414,8 +536,9 @@ fn a_refutation_with_its_defaults_and_with_all_its_words(rt: HostRuntime) {
         },
         binary: true,
     };
+    // The program refuses the binary form of a log that grows.
     let words =
-        "satcluster refute --binary --cubes f.icnf --leaf 3 --to 9 --limit 1 -q -n f.cnf l.frag";
+        "satcluster refute --binary --cubes f.icnf --leaf 3 --to 9 --grow --limit 1 -q -n f.cnf l.frag";
     asks(&rt, rt.alloc(), words, full);
 }
 
@@ -493,7 +616,8 @@ fn receipts_by_their_names(rt: HostRuntime) {
 /// Each line goes past a bound, lacks a word, names one twice, or names one that its command has not got.
 const REFUSED: &[&'static str] = &[
     "satcluster",
-    "satcluster decide f.cnf",
+    "satcluster decided f.cnf",
+    "satcluster decide",
     "satcluster solve",
     "satcluster solve -q",
     "satcluster solve --workers 0 f.cnf",

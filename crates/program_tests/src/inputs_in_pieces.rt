@@ -2,7 +2,8 @@
 
 use crate::check::{FOUR, VERIFIED, same};
 use dimacs::FormulaReader;
-use node_main::{ProofCheck, Refusal};
+use proof_check::ProofCheck;
+use reports::Refusal;
 use std::alloc::Global;
 
 /// The check of proofs of an input that comes byte by byte.

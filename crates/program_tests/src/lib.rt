@@ -16,6 +16,8 @@ mod command_line_words;
 #[cfg(test)]
 mod cubes;
 #[cfg(test)]
+mod decide;
+#[cfg(test)]
 mod drill;
 #[cfg(test)]
 mod inputs_in_pieces;

@@ -11,7 +11,7 @@ use std::alloc::Global;
 use std::process::Abort;
 
 /// The eight clauses over three variables, which nothing satisfies.
-const EIGHT: &[u8] =
+pub(crate) const EIGHT: &[u8] =
     b"p cnf 3 8\n1 2 3 0\n1 2 -3 0\n1 -2 3 0\n1 -2 -3 0\n-1 2 3 0\n-1 2 -3 0\n-1 -2 3 0\n-1 -2 -3 0\n";
 
 /// An input, and what is printed of it.

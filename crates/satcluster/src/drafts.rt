@@ -12,16 +12,16 @@ use commands::{Drafts, Target, Way, refused, write_text};
 use node_main::Refusal;
 use packed_text::PackedText;
 use std::fs::{File, OpenFile};
-use std::io;
 use std::io::Write;
 use std::rt::Runtime;
+use std::{fs, io};
 
 /// An unfinished file.
 #[derive(Drop)]
 pub(crate) enum Draft<F> {
     /// A temporary file beside its path, and the path to which it will be renamed.
     Beside(Part<F>, Place),
-    /// The file at its path, which was truncated.
+    /// What is at the path, which is no regular file.
     InPlace(F),
 }
 
@@ -52,6 +52,26 @@ fn begin_beside<R: Runtime + AllocGlobal>(
     }
 }
 
+/// Whether what is at a path is written itself: a device, a pipe, or what a link names that leads nowhere. A regular file is not, since a
+/// run that ends early would leave it cut short.
+fn is_written_in_place<R: Runtime>(rt: &R, path: &str) -> bool {
+    match fs::metadata(rt, path) {
+        Ok(found) => !found.is_file() && !found.is_dir(),
+        Err(_) => fs::symlink_metadata(rt, path).is_ok(),
+    }
+}
+
+/// Opens what is at a path, if it is written itself; else answers `None`.
+fn begin_in_place<R: Runtime>(rt: &R, path: &str) -> Result<Option<Draft<R::File>>, Refusal>
+    ensures { IfErr result (IsRefusedAs Refusal.Writing) }
+{
+    if !is_written_in_place(rt, path) {
+        return Ok(None);
+    }
+    let file = File::create(rt, path).map_err(not_written)?;
+    Ok(Some(Draft::InPlace(file)))
+}
+
 impl<R: Runtime + AllocGlobal> Drafts for Machine<'_, R> {
     type Draft = Draft<R::File>;
 
@@ -60,14 +80,23 @@ impl<R: Runtime + AllocGlobal> Drafts for Machine<'_, R> {
         is_same_file(self.rt, path, other)
     }
 
-    /// Creates a temporary file beside the path, or truncates the file at the path itself.
+    /// Makes a temporary file beside the path and removes it, if the path leads to a regular file or to nothing.
+    fn test(&self, path: &str) -> Result<(), Refusal> {
+        match begin_beside(self.rt, path)? {
+            Some(draft) => {
+                self.remove(draft);
+                Ok(())
+            }
+            None if is_written_in_place(self.rt, path) => Ok(()),
+            None => Err(Refusal::Writing),
+        }
+    }
+
+    /// Creates a temporary file beside the path, or opens what is there, if it is no regular file.
     fn begin(&self, path: &str, way: Way) -> Result<Option<Draft<R::File>>, Refusal> {
         match way {
             Way::Beside => begin_beside(self.rt, path),
-            Way::InPlace => {
-                let file = File::create(self.rt, path).map_err(not_written)?;
-                Ok(Some(Draft::InPlace(file)))
-            }
+            Way::InPlace => begin_in_place(self.rt, path),
         }
     }
 
@@ -104,6 +133,17 @@ impl<R: Runtime + AllocGlobal> Drafts for Machine<'_, R> {
             Draft::Beside(part, _) => remove(self.rt, part),
             Draft::InPlace(_) => {}
         }
+    }
+}
+
+/// Errs if a file is named that cannot be written, before a run that would be in vain.
+pub(crate) fn test_named<R: Runtime + AllocGlobal>(
+    rt: &R,
+    path: Option<&str>,
+) -> Result<(), Refusal> {
+    match path {
+        Some(path) => Machine { rt }.test(path),
+        None => Ok(()),
     }
 }
 

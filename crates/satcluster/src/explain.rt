@@ -1,9 +1,10 @@
-//! `--explain`: tells what a report means, in words, on standard error, once the report is printed.
+//! Tells what a report means, in words, on standard error, once the report is printed: by `--explain`, or if standard error is a terminal.
 //!
 //! The explanation is made of the report's text, of the words of the command line, and of the bytes of a file that is opened anew. So it
 //! changes neither the report nor the status. If such a file cannot be opened, less is explained.
 
 mod faults;
+mod nearest;
 mod paths;
 mod reasons;
 mod sentence;
@@ -82,22 +83,29 @@ fn explain_text<R: Runtime + AllocGlobal>(rt: &R, words: &[&str], text: &str) {
 }
 
 /// Tells what the printed bytes mean: for `c usage`, which word is refused; else what the lines mean, if the bytes are UTF-8.
-fn explain_bytes<R: Runtime + AllocGlobal>(rt: &R, words: &[&str], bytes: &[u8]) {
+fn explain_bytes<R: Runtime + AllocGlobal>(
+    rt: &R,
+    words: &[&str],
+    bytes: &[u8],
+    on_terminal: bool,
+) {
     if bytes == b"c usage\n".as_slice() {
-        explain_words(rt, words);
+        explain_words(rt, words, on_terminal);
     } else if let Ok(text) = from_utf8(bytes) {
         explain_text(rt, words, text);
     }
 }
 
-/// Prints what a report means, or the line of a run that has no report.
+/// Prints what a report means, or the line of a run that has no report. `on_terminal` says whether
+/// standard error is a terminal.
 pub(crate) fn explain<R: Runtime + AllocGlobal>(
     rt: &R,
     words: &[&str],
     found: &Result<Report, &'static str>,
+    on_terminal: bool,
 ) {
     match found {
-        Ok(report) => explain_bytes(rt, words, report.stdout.as_slice()),
-        Err(line) => explain_bytes(rt, words, line.as_bytes()),
+        Ok(report) => explain_bytes(rt, words, report.stdout.as_slice(), on_terminal),
+        Err(line) => explain_bytes(rt, words, line.as_bytes(), on_terminal),
     }
 }

@@ -4,10 +4,11 @@ ghost use Rattle.std.specs.Prelude.{IfOk};
 ghost use Rattle.command_line.specs.Options.{AreOptions};
 ghost use Rattle.node_main.specs.RunStart.{IsStart};
 
-use crate::drafts::write_proof;
-use crate::files::{no_memory, read_cubes, read_formula};
+use crate::drafts::{test_named, write_proof};
+use crate::files::{Machine, no_memory, read_cubes, read_formula};
 use crate::listener::accept_workers;
-use crate::progress::{Showing, Shown};
+use crate::progress::Shown;
+use crate::status_line::Showing;
 use commands::{Target, print, refused};
 use connections::Connections;
 use dimacs::Limits;
@@ -89,6 +90,9 @@ pub(crate) fn solve<R: Runtime + AllocGlobal + Net>(
     let found = read_formula(rt, limits, files.input)?;
     let cubes = read_cubes(rt, files.cubes)?;
     let carrier = Loopback::open(rt, rt.alloc(), options.workers).map_err(not_linked)?;
+    if found.is_ok() && cubes.is_none() {
+        test_named(rt, files.proof)?; // a fault of the cubes, which the run finds, is told first
+    }
     let mut links = Counted::new(Shown::new(rt, carrier, shown_where(options, showing)));
     let run = run_solve_within(rt.alloc(), found, limits, lent(&cubes), options, &mut links);
     links.carrier().end();
@@ -121,7 +125,11 @@ fn read_start<R: Runtime + AllocGlobal>(
 {
     let found = read_formula(rt, Limits::written(), files.input)?;
     let cubes = read_cubes(rt, files.cubes)?;
-    begin(rt.alloc(), found, lent(&cubes), options).map_err(no_memory)
+    let start = begin(rt.alloc(), found, lent(&cubes), options).map_err(no_memory)?;
+    if let Start::With(_, _) = &start {
+        test_named(rt, files.proof)?;
+    }
+    Ok(start)
 }
 
 /// Serves a run over these links, and answers a report without text. At the verdict the proof is
@@ -228,6 +236,9 @@ pub(crate) fn work<R: Runtime + AllocGlobal + Net>(
 {
     let found = read_formula(rt, Limits::written(), files.input)?;
     let carrier = WorkerEnd::connect(rt, port).map_err(not_linked)?;
+    if found.is_ok() {
+        test_named(rt, files.proof)?;
+    }
     let mut links = Counted::new(carrier);
     let run = run_work_of(rt.alloc(), found, options, &mut links);
     keep_proof(rt, run.map_err(no_memory)?, files)

@@ -6,35 +6,45 @@ ghost use Rattle.command_line.specs.CommandLine.{IsInRange};
 
 mod cubes_complete;
 mod drafts;
+mod elaboration_progress;
 mod explain;
 mod files;
+mod growing_file;
+mod identity;
 mod linked_runs;
 mod listener;
 mod progress;
 mod proof_file;
 mod refute;
+mod search_progress;
 mod session;
 mod standard_input;
+mod status_line;
 
 use commands::{
-    CoverFiles, JoinFiles, JoinOptions, LiftFiles, Lifted, ReceiptFiles, Target, TrimFiles,
-    check_files, check_session_files, cover_files, deliver, join_files, leaf_files, lift_files,
-    receipt_files, refused, split_by_look_files, split_files, test_files, trim_files,
+    CoverFiles, Deciding, JoinFiles, JoinOptions, LiftFiles, Lifted, ReceiptFiles, Target,
+    TrimFiles, check_files, check_session_files, cover_files, deliver, join_files, leaf_files,
+    lift_drat_files, lift_files, receipt_files, refused, split_by_look_files, split_files,
+    test_files, trim_files,
 };
 use cubes_complete::complete;
 use dimacs::Limits;
+use elaboration_progress::{check_drat, elaborate};
 use explain::explain;
 use explanations::Asked;
 use files::{Machine, no_memory, read};
+use formula_search::Asked as AskedSearch;
+use identity::identity;
 use leaves::{SearchOptions, run_look_within};
 use linked_runs::{Files, serve, solve, work};
 use node_main::{
     Command, Refusal, Report, Request, UsageFault, command_of, read_limits, run_cubes_within,
 };
-use progress::Showing;
 use refute::{LeafFiles, LeafRange, refute};
+use search_progress::decide;
 use session::{SessionFiles, session};
 use standard_input::is_sound;
+use status_line::Showing;
 use std::alloc::AllocError;
 use std::io::IsTerminal;
 use std::net::Net;
@@ -102,6 +112,11 @@ fn target(path: Option<&str>, binary: bool) -> Option<Target<'_>> {
     }
 }
 
+/// Answers how progress is shown: so if the words ask for it, and else not at all.
+fn shown(progress: bool, showing: Showing) -> Showing {
+    if progress { showing } else { Showing::Nowhere }
+}
+
 /// Runs a request, whose inputs are read within these limits, and answers its report, or why it has none. `showing` is how progress is
 /// shown if the words ask for it.
 fn answer<R: Runtime + AllocGlobal + Net>(
@@ -113,6 +128,27 @@ fn answer<R: Runtime + AllocGlobal + Net>(
     requires { IsInRange request.now }
 {
     match *request {
+        Request::Decide {
+            input,
+            proof,
+            limit,
+            progress,
+            stats,
+            printing,
+            binary,
+        } => {
+            let files = Deciding {
+                input,
+                proof: target(proof, binary),
+                asked: AskedSearch {
+                    limit,
+                    witness: printing.witness,
+                    stats: stats && !printing.quiet,
+                },
+                quiet: printing.quiet,
+            };
+            decide(rt, limits, &files, shown(progress, showing))
+        }
         Request::Solve {
             input,
             cubes,
@@ -131,9 +167,15 @@ fn answer<R: Runtime + AllocGlobal + Net>(
             input,
             proof,
             session: is_session,
+            drat: is_drat,
+            progress,
         } => {
-            if is_session {
+            if (is_session && is_drat) || (progress && !is_drat) {
+                Err(Refusal::Usage)
+            } else if is_session {
                 check_session_files(&Machine { rt }, limits, input, proof)
+            } else if is_drat {
+                check_drat(rt, limits, input, proof, shown(progress, showing))
             } else {
                 check_files(&Machine { rt }, limits, input, proof)
             }
@@ -188,6 +230,7 @@ fn answer<R: Runtime + AllocGlobal + Net>(
             cubes,
             leaf,
             to,
+            grow,
             limit,
             fragment,
             printing,
@@ -197,6 +240,7 @@ fn answer<R: Runtime + AllocGlobal + Net>(
                 input,
                 cubes,
                 fragment,
+                grows: grow,
                 binary,
             };
             let search = SearchOptions {
@@ -236,6 +280,7 @@ fn answer<R: Runtime + AllocGlobal + Net>(
             leaf,
             to,
             lidrup,
+            drat: is_drat,
             proof,
             fragment,
             binary,
@@ -250,14 +295,30 @@ fn answer<R: Runtime + AllocGlobal + Net>(
                 proof,
                 log,
             };
-            lift_files(
-                &mut Machine { rt },
-                limits,
-                &files,
-                lifted_of(leaf, to, lidrup)?,
-            )
+            match (is_drat, lifted_of(leaf, to, lidrup)?) {
+                (false, lifted) => lift_files(&mut Machine { rt }, limits, &files, lifted),
+                (true, Lifted::Leaf(leaf)) => {
+                    lift_drat_files(&mut Machine { rt }, limits, &files, leaf)
+                }
+                (true, _) => Err(Refusal::Usage),
+            }
         }
         Request::Model { input, output } => test_files(&Machine { rt }, limits, input, output),
+        Request::Elaborate {
+            input,
+            drat,
+            lrat,
+            progress,
+            binary,
+        } => {
+            let out = Target { path: lrat, binary };
+            let files = TrimFiles {
+                input,
+                proof: drat,
+                out,
+            };
+            elaborate(rt, limits, &files, shown(progress, showing))
+        }
         Request::Trim {
             input,
             proof,
@@ -310,7 +371,9 @@ fn is_quiet(request: &Request) -> bool {
         Request::Solve { options, .. }
         | Request::Serve { options, .. }
         | Request::Work { options, .. } => options.quiet,
-        Request::Refute { printing, .. } | Request::Join { printing, .. } => printing.quiet,
+        Request::Decide { printing, .. }
+        | Request::Refute { printing, .. }
+        | Request::Join { printing, .. } => printing.quiet,
         Request::Cover { quiet, .. } => *quiet,
         _ => false,
     }
@@ -318,7 +381,8 @@ fn is_quiet(request: &Request) -> bool {
 
 /// The last lines of each help: what every command takes besides its own words.
 const COMMON: &[u8] =
-    b"\nEvery command takes --explain: in words, on standard error, what a c line means, and what to do\n";
+    b"\nEvery command takes --explain: in words, on standard error, what a c line means, and what to do.
+If standard error is a terminal, that is told without it, except by --no-explain\n";
 
 /// Whether the words, of which the first names the program, ask for the version, whose text is a line by itself.
 fn asks_for_version(words: &[&str]) -> bool {
@@ -328,14 +392,16 @@ fn asks_for_version(words: &[&str]) -> bool {
     }
 }
 
-/// Reports, with status 0, the text of a help with the lines common to all, or the version.
+/// Reports, with status 0, the text of a help with the lines common to all; or the version, and of which commit the program was proved.
 fn help<R: Runtime + AllocGlobal>(
     rt: &R,
     words: &[&str],
     text: &String,
 ) -> Result<Report, AllocError> {
     let mut report = Report::of(rt.alloc(), text.as_str().as_bytes(), 0)?;
-    if !asks_for_version(words) {
+    if asks_for_version(words) {
+        report.stdout.extend_from_slice(identity(rt)?.as_slice())?;
+    } else {
         report.stdout.extend_from_slice(COMMON)?;
     }
     Ok(report)
@@ -378,8 +444,9 @@ fn print_outcome<R: Runtime>(rt: &R, found: &Result<Report, &'static str>) -> u8
     }
 }
 
-/// Runs by the words, prints the report, explains it if the words ask for that, and answers the exit status. `--explain` is taken out of
-/// the words first, so the report and the status are those of the same words without it.
+/// Runs by the words, prints the report, explains it if the words ask for that or standard error is a terminal, and answers the exit
+/// status. `--explain` and `--no-explain` are taken out of the words first, so the report and the status are those of the same words
+/// without them.
 fn run<R: Runtime + AllocGlobal + Net>(
     rt: &R,
     owned: &[String],
@@ -389,8 +456,9 @@ fn run<R: Runtime + AllocGlobal + Net>(
     let words = asked.words.as_slice();
     let found = respond(rt, words, showing);
     let status = print_outcome(rt, &found);
-    if asked.explains {
-        explain(rt, words, &found);
+    let on_terminal = showing == Showing::InPlace;
+    if asked.explaining.is_wanted(on_terminal) {
+        explain(rt, words, &found, on_terminal);
     }
     Ok(status)
 }

@@ -3,32 +3,17 @@
 ghost use Rattle.std.specs.Prelude.{◌≤◌, length, IfOk};
 ghost use Rattle.links.specs.Arrivals.{IsWithin};
 
+use crate::status_line::{Showing, StatusLine};
 use links::{Arrival, Carrier, End, Event, EventCarrier, LinkFault, Progress};
 use std::fmt;
 use std::fmt::{Display, Formatter};
 use std::rt::Runtime;
 
-/// How progress is shown on standard error.
-#[derive(Clone, Copy, Debug, PartialEq, Eq)]
-pub(crate) enum Showing {
-    /// Not at all.
-    Nowhere,
-    /// A new line each time.
-    Lines,
-    /// On one line, which is overwritten (a terminal).
-    InPlace,
-}
-
 /// Links that also show the progress of their run, and count the bytes that the coordinator receives.
 pub(crate) struct Shown<'a, R, T> {
-    rt: &'a R,
     /// The links that carry the bytes.
     links: T,
-    showing: Showing,
-    /// The second in which the run began, by the clock.
-    begun: u64,
-    /// The second in which progress was last shown, or in which the run began.
-    told: u64,
+    line: StatusLine<'a, R>,
     /// How many bytes the coordinator has received.
     bytes: u64,
 }
@@ -36,11 +21,8 @@ pub(crate) struct Shown<'a, R, T> {
 impl<R, T: Drop> Drop for Shown<'_, R, T> {
     fn drop(self) {
         let Shown {
-            rt: _,
             links: _,
-            showing: _,
-            begun: _,
-            told: _,
+            line: _,
             bytes: _,
         } = self;
     }
@@ -49,13 +31,9 @@ impl<R, T: Drop> Drop for Shown<'_, R, T> {
 impl<'a, R: Runtime, T> Shown<'a, R, T> {
     /// These links, with no byte counted and no progress shown.
     pub(crate) fn new(rt: &'a R, links: T, showing: Showing) -> Shown<'a, R, T> {
-        let now = seconds(rt);
         Shown {
-            rt,
             links,
-            showing,
-            begun: now,
-            told: now,
+            line: StatusLine::new(rt, showing),
             bytes: 0,
         }
     }
@@ -65,42 +43,20 @@ impl<'a, R: Runtime, T> Shown<'a, R, T> {
         self.bytes = self.bytes.saturating_add(count as u64);
     }
 
-    /// Shows the progress, at most once a second. A write that fails is ignored.
+    /// Shows the progress, at most once a second.
     fn print_progress(&mut self, progress: &Progress) {
-        if self.showing == Showing::Nowhere {
-            return;
+        if let Some(elapsed) = self.line.due() {
+            self.line.write(&Told {
+                progress: *progress,
+                bytes: self.bytes,
+                seconds: elapsed.seconds,
+            });
         }
-        let now = seconds(self.rt);
-        if now == self.told {
-            return;
-        }
-        self.told = now;
-        let line = Told {
-            progress: *progress,
-            bytes: self.bytes,
-            seconds: now.saturating_sub(self.begun),
-        };
-        let _ = match self.showing {
-            Showing::InPlace => eprint!(self.rt; "\r{line}\x1b[K"),
-            _ => eprintln!(self.rt; "{line}"),
-        };
     }
 
-    /// Ends the line on standard error that each progress overwrites, so that the report begins a
-    /// new one.
+    /// Ends the line that each progress overwrites.
     pub(crate) fn end(&self) {
-        if self.showing == Showing::InPlace && self.told != self.begun {
-            let _ = eprintln!(self.rt; "");
-        }
-    }
-}
-
-/// Answers the seconds of the monotonic clock, for the time that the progress shows; 0 if it cannot
-/// be read.
-fn seconds<R: Runtime>(rt: &R) -> u64 {
-    match rt.monotonic() {
-        Ok(time) => time.as_secs(),
-        Err(_) => 0,
+        self.line.end();
     }
 }
 

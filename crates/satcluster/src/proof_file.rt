@@ -71,6 +71,7 @@ pub(crate) fn place_of<R: Runtime + AllocGlobal>(rt: &R, path: &str) -> io::Resu
                 old: None,
             }))
         }
+        Err(error) if error.kind() == ErrorKind::OutOfMemory => Err(error),
         _ => Ok(None),
     }
 }
@@ -89,6 +90,7 @@ pub(crate) fn make_part<R: Runtime + AllocGlobal>(
                 return Ok(copy_permissions(rt, Part { file, name }, place));
             }
             Err(error) if error.kind() == ErrorKind::AlreadyExists => {}
+            Err(error) if error.kind() == ErrorKind::OutOfMemory => return Err(error),
             Err(_) => return Ok(None),
         }
     }
@@ -137,11 +139,15 @@ pub(crate) fn keep<R: Runtime>(rt: &R, part: Part<R::File>, place: &Place) -> io
         remove(rt, part);
         return Err(error);
     }
-    if fs::rename(rt, part.name.as_str(), place.path.as_str()).is_ok() {
+    let renamed = fs::rename(rt, part.name.as_str(), place.path.as_str());
+    if renamed.is_ok() {
         return Ok(true);
     }
     remove(rt, part);
-    Ok(false)
+    match renamed {
+        Err(error) if error.kind() == ErrorKind::OutOfMemory => Err(error),
+        _ => Ok(false),
+    }
 }
 
 /// Removes the temporary file; a failure is ignored.

@@ -2,7 +2,7 @@
 
 use crate::drafts::not_written;
 use crate::files::{no_memory, path_of};
-use crate::proof_file::{is_printed_to, is_same_file, place_of};
+use crate::growing_file::create_growing;
 use crate::standard_input::is_dash;
 use commands::{Asking, Outputs, answer_session, print, refused};
 use dimacs::Limits;
@@ -49,17 +49,6 @@ impl<R: Runtime, F: Write> Outputs for Printer<'_, R, F> {
     }
 }
 
-/// Whether the proof may go to this path: whether it leads neither to the file of the events nor to standard output.
-fn is_free<R: Runtime + AllocGlobal>(rt: &R, path: &str, input: &str) -> Result<bool, Refusal> {
-    if is_same_file(rt, path, input) {
-        return Ok(false);
-    }
-    match place_of(rt, path).map_err(not_written)? {
-        Some(place) => Ok(!is_printed_to(rt, &place)),
-        None => Ok(true),
-    }
-}
-
 /// Creates or truncates the file of the proof; `None` if none is named. It errs if the path leads to the events or standard output, or if
 /// the file cannot be created.
 fn proof_of<R: Runtime + AllocGlobal>(
@@ -69,10 +58,7 @@ fn proof_of<R: Runtime + AllocGlobal>(
     let Some(path) = files.proof else {
         return Ok(None);
     };
-    if !is_free(rt, path, files.input)? {
-        return Err(Refusal::Writing);
-    }
-    let file = File::create(rt, path).map_err(not_written)?;
+    let file = create_growing(rt, path, files.input, None)?;
     Ok(Some(file))
 }
 

@@ -38,6 +38,7 @@ fn is_read_twice(request: &Request) -> bool {
         Request::Solve { input, cubes, .. } => is_dash(input) && is_some_dash(cubes),
         Request::Serve { input, cubes, .. } => is_dash(input) && is_some_dash(cubes),
         Request::Check { input, proof, .. } => is_dash(input) && is_dash(proof),
+        Request::Elaborate { input, drat, .. } => is_dash(input) && is_dash(drat),
         Request::Trim { input, proof, .. } => is_dash(input) && is_dash(proof),
         Request::Split { input, cubes, .. } => is_dash(input) && is_dash(cubes),
         Request::SplitByLook { input, cubes, .. } => is_dash(input) && is_dash(cubes),
@@ -76,6 +77,7 @@ fn is_read_twice(request: &Request) -> bool {
 /// Whether a request would write to a file under the name of standard input.
 fn is_written(request: &Request) -> bool {
     match *request {
+        Request::Decide { proof, .. } => is_some_dash(proof),
         Request::Solve { proof, .. } => is_some_dash(proof),
         Request::Serve { proof, .. } => is_some_dash(proof),
         Request::Work { proof, .. } => is_some_dash(proof),
@@ -83,6 +85,7 @@ fn is_written(request: &Request) -> bool {
         Request::Join { proof, .. } => is_some_dash(proof),
         Request::Session { proof, .. } => is_some_dash(proof),
         Request::Lift { fragment, .. } => is_dash(fragment),
+        Request::Elaborate { lrat, .. } => is_dash(lrat),
         Request::Trim { out, .. } => is_dash(out),
         Request::Receipt { receipt, .. } => is_dash(receipt),
         _ => false,

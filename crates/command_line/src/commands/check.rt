@@ -6,6 +6,7 @@ ghost use Rattle.command_line.specs.declared.request.Request.{Request};
 ghost use Rattle.command_line.specs.Program.{check_app};
 ghost use Rattle.option_table.specs.Rules.{app_of_command};
 
+use crate::commands::run_words::PROGRESS;
 use crate::commands::words::{INPUT, LARGE, file_of, is_given};
 use crate::request::Request;
 use option_table::{CommandRules, Found, Word};
@@ -21,6 +22,11 @@ static RULES: CommandRules<'static> = CommandRules {
             name: "session",
             help: "INPUT is what was sent in a session, clauses and queries, and PROOF is a LIDRUP file",
         },
+        Word::LongFlag {
+            name: "drat",
+            help: "PROOF is a DRAT file, as text or in binary form, as most solvers write",
+        },
+        PROGRESS,
         INPUT,
         Word::File {
             name: "PROOF",
@@ -51,5 +57,7 @@ pub(crate) fn asked<'a>(given: &Found<'a>) -> Option<Request<'a>>
         input,
         proof,
         session: is_given(given, "session"),
+        drat: is_given(given, "drat"),
+        progress: is_given(given, "progress"),
     })
 }

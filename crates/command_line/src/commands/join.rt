@@ -31,7 +31,7 @@ static RULES: CommandRules<'static> = CommandRules {
         INPUT,
         Word::Files {
             name: "NAME",
-            help: "PROOF, which is written, but with --dry; then the fragments, or - for names on standard input",
+            help: "PROOF, which is written (not with --dry); then the fragments, or - for names on standard input",
         },
     ],
 };

@@ -38,12 +38,16 @@ static RULES: CommandRules<'static> = CommandRules {
             name: "lidrup",
             help: "PROOF is a LIDRUP text for all leaves, or for those that are named",
         },
+        Word::LongFlag {
+            name: "drat",
+            help: "With --leaf: PROOF is a DRAT proof of the leaf's formula, as text or in binary form",
+        },
         BINARY,
         INPUT,
         Word::File {
             name: "PROOF",
             required: true,
-            help: "The proof, an LRAT file that is read, or a LIDRUP file",
+            help: "The proof, an LRAT file that is read, or a LIDRUP or DRAT file",
         },
         Word::File {
             name: "FRAGMENT",
@@ -80,6 +84,7 @@ pub(crate) fn asked<'a>(given: &Found<'a>) -> Option<Request<'a>>
         leaf,
         to,
         lidrup: is_given(given, "lidrup"),
+        drat: is_given(given, "drat"),
         proof,
         fragment,
         binary: is_given(given, "binary"),

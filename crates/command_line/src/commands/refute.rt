@@ -31,6 +31,10 @@ static RULES: CommandRules<'static> = CommandRules {
             need: Need::Optional,
             help: "Search under each leaf up to this one, in turn, from 1 to 4294967295",
         },
+        Word::LongFlag {
+            name: "grow",
+            help: "With --to and FRAGMENT: write and tell each leaf as soon as it was searched",
+        },
         Word::Number {
             name: "limit",
             low: 1,
@@ -75,6 +79,7 @@ pub(crate) fn asked<'a>(given: &Found<'a>) -> Option<Request<'a>>
         cubes,
         leaf,
         to,
+        grow: is_given(given, "grow"),
         limit,
         fragment: file_of(given, "FRAGMENT"),
         printing: printing_of(given),

@@ -1,7 +1,7 @@
 //! The words of a run, which several commands share, and the options that they give.
 
 ghost use Rattle.std.specs.Prelude.{◌≡◌, ◌≤◌, ℕ, Option, IfSome, IfNone, codes};
-ghost use Rattle.command_line.specs.CommandLine.{NamesAnyNumber, NamesOptions, NamesPrinting, usual_depth};
+ghost use Rattle.command_line.specs.CommandLine.{IsLemmaLimit, NamesAnyNumber, NamesOptions, NamesPrinting, usual_depth};
 ghost use Rattle.command_line.specs.Options.{AreOptions};
 ghost use Rattle.command_line.specs.declared.options.Options.{Options};
 
@@ -112,6 +112,23 @@ fn patience_of(given: &Found) -> Option<Option<u64>>
     }
     let seconds = number_of(given, "patience", 1, LONGEST)?;
     Some(Some(seconds))
+}
+
+/// The greatest limit of lemmas of a search.
+pub(crate) const LAST_LIMIT: u64 = 1_000_000_000;
+
+/// The number of lemmas that `--limit` gives if it has no default; the inner None if it is not
+/// given, the outer one if its value is out of range.
+pub(crate) fn any_limit_of(given: &Found) -> Option<Option<u64>>
+    ensures found { IfSome result (NamesAnyNumber given.now.rows (codes "limit") 1 1000000000) }
+    ensures none { IfNone result ((limit : Option ℕ) → NamesAnyNumber given.now.rows (codes "limit") 1 1000000000 limit → ⊥) }
+    ensures range { IfSome result (λ limit. IfSome limit IsLemmaLimit) }
+{
+    if !is_named(given, "limit") {
+        return Some(None);
+    }
+    let lemmas = number_of(given, "limit", 1, LAST_LIMIT)?;
+    Some(Some(lemmas))
 }
 
 /// Where the workers of a run come from.

@@ -1,18 +1,15 @@
 //! The command `session`: the table of its arguments, and the request that they make.
 
-ghost use Rattle.std.specs.Prelude.{◌≡◌, ℕ, Option, IfSome, IfNone, codes};
-ghost use Rattle.command_line.specs.CommandLine.{IsInRange, IsSessionLimit, Makes, NamesAnyNumber};
+ghost use Rattle.std.specs.Prelude.{◌≡◌, IfSome, IfNone, codes};
+ghost use Rattle.command_line.specs.CommandLine.{IsInRange, Makes};
 ghost use Rattle.command_line.specs.declared.request.Request.{Request};
 ghost use Rattle.command_line.specs.Program.{session_app};
 ghost use Rattle.option_table.specs.Rules.{app_of_command};
 
-use crate::commands::run_words::printing_of;
-use crate::commands::words::{LARGE, file_of, is_named, number_of};
+use crate::commands::run_words::{LAST_LIMIT, any_limit_of, printing_of};
+use crate::commands::words::{LARGE, file_of};
 use crate::request::Request;
 use option_table::{CommandRules, Found, Need, Word};
-
-/// The greatest limit of lemmas of a query.
-const LAST_LIMIT: u64 = 1_000_000_000;
 
 /// The arguments that `session` takes.
 static RULES: CommandRules<'static> = CommandRules {
@@ -54,20 +51,6 @@ pub(crate) fn rules() -> CommandRules<'static>
     RULES
 }
 
-/// The number of lemmas that `--limit` gives; the inner None if it is not given, the outer one if
-/// its value is out of range.
-fn limit_of(given: &Found) -> Option<Option<u64>>
-    ensures found { IfSome result (NamesAnyNumber given.now.rows (codes "limit") 1 1000000000) }
-    ensures none { IfNone result ((limit : Option ℕ) → NamesAnyNumber given.now.rows (codes "limit") 1 1000000000 limit → ⊥) }
-    ensures range { IfSome result (λ limit. IfSome limit IsSessionLimit) }
-{
-    if !is_named(given, "limit") {
-        return Some(None);
-    }
-    let lemmas = number_of(given, "limit", 1, LAST_LIMIT)?;
-    Some(Some(lemmas))
-}
-
 /// Makes the request of the parsed arguments of `session`; None if a required one is missing, a
 /// number is out of range, or they do not go together.
 pub(crate) fn asked<'a>(given: &Found<'a>) -> Option<Request<'a>>
@@ -76,7 +59,7 @@ pub(crate) fn asked<'a>(given: &Found<'a>) -> Option<Request<'a>>
     ensures range { IfSome result IsInRange }
 {
     let input = file_of(given, "INPUT")?;
-    let limit = limit_of(given)?;
+    let limit = any_limit_of(given)?;
     Some(Request::Session {
         input,
         proof: file_of(given, "PROOF"),

@@ -17,7 +17,7 @@ use option_table::{CommandRules, Found};
 /// The arguments that `solve` takes.
 static RULES: CommandRules<'static> = CommandRules {
     name: "solve",
-    about: "Decides a DIMACS formula, with an LRAT proof where nothing satisfies it",
+    about: "Decides a DIMACS formula by a coordinator and its workers, in one process",
     after_help: STATUS,
     words: &[
         LARGE, PROGRESS, WORKERS, DEPTH, LIMIT, CUBES, DEFS, BINARY, QUIET, NO_WITNESS, INPUT,

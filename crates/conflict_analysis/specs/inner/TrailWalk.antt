@@ -60,6 +60,10 @@ pub record AreCounted (entries front : List Assigned) (seen : ℕ → Bool) (pen
 abbrev pub AreMarked : List Assigned → (ℕ → Bool) → List Bool → Type 0
 AreMarked entries seen blocks = (k : ℕ) (d : Assigned) → k < length entries → seen (var_of (slice_index_or entries k d).literal) ≡ true → met blocks (k / 8) ≡ true
 
+-- the index of each met entry is marked
+abbrev pub ArePlaced : List Assigned → (ℕ → Bool) → List Bool → Type 0
+ArePlaced entries seen places = (k : ℕ) (d : Assigned) → k < length entries → seen (var_of (slice_index_or entries k d).literal) ≡ true → met places k ≡ true
+
 -- the invariant of a walk down a trail, of which the prefix `front` is not passed yet
 pub record IsWalk (t : TrailValue) (front : List Assigned) (w : TrailWalk) : Type 0 where
   pub valid : IsTrailValue t
@@ -71,6 +75,8 @@ pub record IsWalk (t : TrailValue) (front : List Assigned) (w : TrailWalk) : Typ
   pub again : (v : ℕ) → Contains w.again.items v → met w.seen v ≡ true
   pub wide : length t.entries / 8 < length w.blocks
   pub marked : AreMarked t.entries (met w.seen) w.blocks
+  pub whole : length t.entries ≤ length w.places
+  pub placed : ArePlaced t.entries (met w.seen) w.places
 
 -- an entry's property: it was implied by a live clause after this front, and each variable of the clause was seen
 pub record IsResolved (live : Live) (front : List Assigned) (seen : ℕ → Bool) (e : Assigned) : Type 0 where

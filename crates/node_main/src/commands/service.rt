@@ -14,7 +14,7 @@ ghost use Rattle.node_main.specs.ServiceReports.{HandsOutBy, HasEndedBy, links_o
 ghost use Rattle.node_main.specs.RunCalls.{WasServed};
 ghost use Rattle.node_main.specs.SolveReports.{Solves};
 ghost use Rattle.node_main.specs.RunStart.{IsStart, Starts};
-ghost use Rattle.node_main.specs.Truth.{IsTrueReport};
+ghost use Rattle.proof_check.specs.Truth.{IsTrueReport};
 
 use crate::plans::service_plan;
 use crate::start::{Start, begin};

@@ -7,7 +7,7 @@ ghost use Rattle.command_line.specs.Options.{AreOptions};
 ghost use Rattle.runs.specs.Accounts.{OnceEach};
 ghost use Rattle.node_main.specs.RunCalls.{WasRun};
 ghost use Rattle.node_main.specs.SolveReports.{Solves};
-ghost use Rattle.node_main.specs.Truth.{IsTrueReport};
+ghost use Rattle.proof_check.specs.Truth.{IsTrueReport};
 
 use crate::plans::coordinator_plan;
 use crate::start::{Start, begin_within};

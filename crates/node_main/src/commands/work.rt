@@ -7,7 +7,7 @@ ghost use Rattle.command_line.specs.Options.{AreOptions};
 ghost use Rattle.runs.specs.Accounts.{OnceEach};
 ghost use Rattle.node_main.specs.RunCalls.{WasRun};
 ghost use Rattle.node_main.specs.SolveReports.{Works};
-ghost use Rattle.node_main.specs.Truth.{IsTrueReport};
+ghost use Rattle.proof_check.specs.Truth.{IsTrueReport};
 
 use crate::plans::worker_plan;
 use crate::start::refused_input;

@@ -90,6 +90,7 @@ fn answered_paths<'a>(events: &'a str, proof: Option<&'a str>) -> Paths<'a> {
 pub(crate) fn paths_of<'a>(request: &'a Request<'_>) -> Paths<'a> {
     match *request {
         Request::Session { input, proof, .. } => answered_paths(input, proof),
+        Request::Decide { input, proof, .. } => Paths::of(input, None, proof),
         Request::Solve {
             input,
             cubes,
@@ -107,7 +108,14 @@ pub(crate) fn paths_of<'a>(request: &'a Request<'_>) -> Paths<'a> {
             input,
             proof,
             session: true,
+            ..
         } => session_paths(input, proof),
+        Request::Check {
+            input,
+            proof,
+            drat: true,
+            ..
+        } => Paths::of(input, None, None).reading(proof, Subject::DratProof),
         Request::Check { input, proof, .. } => {
             Paths::of(input, None, None).reading(proof, Subject::Proof)
         }
@@ -143,11 +151,14 @@ pub(crate) fn paths_of<'a>(request: &'a Request<'_>) -> Paths<'a> {
             input,
             cubes,
             lidrup,
+            drat,
             proof,
             fragment,
             ..
         } => {
-            let read_as = if lidrup {
+            let read_as = if drat {
+                Subject::DratProof
+            } else if lidrup {
                 Subject::Session
             } else {
                 Subject::Proof
@@ -156,6 +167,9 @@ pub(crate) fn paths_of<'a>(request: &'a Request<'_>) -> Paths<'a> {
         }
         Request::Model { input, output } => {
             Paths::of(input, None, None).reading(output, Subject::Answer)
+        }
+        Request::Elaborate { input, drat, .. } => {
+            Paths::of(input, None, None).reading(drat, Subject::DratProof)
         }
         Request::Trim {
             input,

@@ -1,8 +1,9 @@
 //! Tells which word of a command line is refused.
 //!
 //! The parser is asked: the first words with `--help` after them are answered by help if none of them is refused. So no rule of the
-//! words stands twice.
+//! words stands twice. The help also has the known words, of which the nearest one is told.
 
+use crate::explain::nearest::{known_commands, known_words, nearest};
 use crate::explain::sentence::tell;
 use crate::standard_input::is_sound;
 use explanations::{Reason, shown};
@@ -112,6 +113,29 @@ fn tell_line<R: Runtime>(rt: &R, line: Option<&str>) {
     }
 }
 
+/// The known word that is nearest to a refused one, by the help of the command, or of the program
+/// for another command; None if none is near. It errs if memory runs out.
+fn meant<'a, R: Runtime + AllocGlobal>(
+    rt: &R,
+    reason: Reason,
+    word: &str,
+    help: &'a str,
+) -> Result<Option<&'a str>, AllocError> {
+    let known = match reason {
+        Reason::OtherCommand => known_commands(rt.alloc(), help)?,
+        Reason::OtherWord => known_words(rt.alloc(), help)?,
+        _ => return Ok(None),
+    };
+    nearest(rt.alloc(), word, known.as_slice())
+}
+
+/// Tells which word was perhaps meant, if one is near.
+fn tell_meant<R: Runtime>(rt: &R, meant: Option<&str>) {
+    if let Some(word) = meant {
+        tell(rt, "Do you mean WORD?", "WORD", word);
+    }
+}
+
 /// Tells why words are refused, the lines of a help that show what is right, and what to do.
 fn tell_reason<R: Runtime>(rt: &R, reason: Reason, word: &str, right: Right<'_>) {
     let told = reason.told();
@@ -148,12 +172,28 @@ fn tell_refused<R: Runtime + AllocGlobal>(rt: &R, words: &[&str]) -> Result<(), 
     };
     let line = line_of(help, word);
     let right = Right { word: line, usage };
-    tell_reason(rt, reason_of(place, word, line), word, right);
+    let reason = reason_of(place, word, line);
+    let meant = meant(rt, reason, word, help)?;
+    tell_reason(rt, reason, word, right);
+    tell_meant(rt, meant);
     Ok(())
 }
 
-/// Tells why words are refused: one of them by itself, or what they name together.
-pub(crate) fn explain_words<R: Runtime + AllocGlobal>(rt: &R, words: &[&str]) {
+/// Prints the help of the program on standard error: for a call without words. It errs if memory runs out.
+fn tell_help<R: Runtime + AllocGlobal>(rt: &R, words: &[&str]) -> Result<(), AllocError> {
+    if let Some(text) = help_of(rt, words, 1)? {
+        let _ = eprint!(rt; "{text}");
+    }
+    Ok(())
+}
+
+/// Tells why words are refused: one of them by itself, or what they name together. For a call
+/// without words, somebody at a terminal gets the help.
+pub(crate) fn explain_words<R: Runtime + AllocGlobal>(rt: &R, words: &[&str], on_terminal: bool) {
+    if words.len() < 2 && on_terminal {
+        let _ = tell_help(rt, words);
+        return;
+    }
     match command(rt.alloc(), words) {
         Ok(request) => {
             let reason = if is_sound(&request) {

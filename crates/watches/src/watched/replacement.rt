@@ -44,7 +44,7 @@ pub(crate) fn find_watch(literals: &[Lit], trail: &Trail, from: usize) -> Option
 }
 
 /// Finds a literal after the first two that is not false, from the saved position of the clause at row `owner` on; None if there is none. A
-/// clause of two literals has no other one to watch.
+/// clause of two literals has no other one to watch, and one of three has one place to look at, so that their positions are not read.
 #[inline(always)]
 pub(crate) fn find_next_watch(
     literals: &[Lit],
@@ -55,7 +55,11 @@ pub(crate) fn find_next_watch(
     requires { All (IsWithin trail.now.vars) literals.now }
     ensures { FindsWatch trail.now.entries literals.now result }
 {
-    let from = if literals.len() > 2 {
+    let len = literals.len();
+    if len < 3 {
+        return None;
+    }
+    let from = if len > 3 {
         saved_position(positions, owner)
     } else {
         2

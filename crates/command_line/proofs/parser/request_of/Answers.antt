@@ -5,6 +5,7 @@ pub returns-in_default-clause-none : goal.returns-in_default-clause-none
 returns-in_default-clause-none c =
     let other = c.in_default in
     makes_none c.name.result.now c.args.given.now.name c.args.given.now.rows c.name.ensures (record {
+      no_decide = other.not-decide;
       no_solve = other.not-solve;
       no_check = other.not-check;
       no_cubes = other.not-cubes;
@@ -17,6 +18,7 @@ returns-in_default-clause-none c =
       no_lift = other.not-lift;
       no_model = other.not-model;
       no_trim = other.not-trim;
+      no_elaborate = other.not-elaborate;
       no_receipt = other.not-receipt;
       no_cover = other.not-cover;
       no_session = other.not-session;

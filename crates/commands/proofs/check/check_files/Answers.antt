@@ -4,7 +4,7 @@ use Rattle.commands.specs.Known.{HoldsOf}
 use Rattle.commands.proofs.OfLemmas.{of_map, of_opened}
 use Rattle.dimacs.specs.logic.Limits.{Limits}
 use Rattle.dimacs.specs.text.Parser.{GivesFormula, parse_within}
-use Rattle.node_main.specs.ProofChecks.{HasTaken}
+use Rattle.proof_check.specs.ProofChecks.{HasTaken}
 use Rattle.commands.specs.inner.Feed.{Extends}
 use Rattle.commands.proofs.check.check_files.Goals as goal
 

@@ -34,14 +34,14 @@ returns-then-entry-self-clause-walk c =
     let b = (goal.at.returns-then-entry-self-clause-walk c).In_ok-push in
     meets_here c.args.trail.now c.args.front.now c.args.self.now c.args.literal c.entry_of-entry.result c.requires.walk c.requires.within c.requires.known (new b) c.entry_of-entry.ensures.member (is b)
     c.place_of-place.result c.place_of-place.ensures.within (stands b)
-    _ (c.insert.ensures ∙ ap (λ v. set c.args.self.now.seen v true) c.var-var.ensures) c.insert_at.ensures refl refl refl (listed b) refl c.if-entry-self.true
+    _ (c.insert.ensures ∙ ap (λ v. set c.args.self.now.seen v true) c.var-var.ensures) c.insert_at.ensures c.insert_at-2.ensures refl refl refl (listed b) refl c.if-entry-self.true
 
 pub returns-else-entry-self-clause-walk : goal.returns-else-entry-self-clause-walk
 returns-else-entry-self-clause-walk c =
     let b = (goal.at.returns-else-entry-self-clause-walk c).In_ok-push in
     meets_below c.args.trail.now c.args.front.now c.args.self.now c.args.literal c.entry_of-entry.result c.requires.walk c.requires.within c.requires.known (new b) c.entry_of-entry.ensures.member (is b)
     c.place_of-place.result c.place_of-place.ensures.within (stands b)
-    _ (c.insert.ensures ∙ ap (λ v. set c.args.self.now.seen v true) c.var-var.ensures) c.insert_at.ensures refl refl refl (listed b) refl c.if-entry-self.false
+    _ (c.insert.ensures ∙ ap (λ v. set c.args.self.now.seen v true) c.var-var.ensures) c.insert_at.ensures c.insert_at-2.ensures refl refl refl (listed b) refl c.if-entry-self.false
 
 pub returns-then-entry-self-clause-seen : goal.returns-then-entry-self-clause-seen
 returns-then-entry-self-clause-seen c =

@@ -19,4 +19,6 @@ returns-clause-walk c = record {
   again = rw c.clear-2.ensures.items (λ v h. absurd (Contains-nil v h));
   wide = let r = c.in_ok-restart-2.ensures.room in let n = c.len.ensures.value in omega (arith, r, n);
   marked = λ k d lt h. absurd (both_ways (met c.restart.new.self (var_of (get_or c.args.trail.now.entries k d).literal)) (c.in_ok-restart.ensures.none (var_of (get_or c.args.trail.now.entries k d).literal)) h);
+  whole = let r = c.in_ok-restart-3.ensures.room in let n = c.len-2.ensures.value in omega (arith, r, n);
+  placed = λ k d lt h. absurd (both_ways (met c.restart.new.self (var_of (get_or c.args.trail.now.entries k d).literal)) (c.in_ok-restart.ensures.none (var_of (get_or c.args.trail.now.entries k d).literal)) h);
 }

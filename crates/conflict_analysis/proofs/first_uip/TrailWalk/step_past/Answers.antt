@@ -1,8 +1,18 @@
 use Rattle.std.proofs.Common.{◌≡◌, ◌==◌, ◌∙◌, sym, ap, subst, get_or, List}
 use Rattle.watches.specs.declared.trail.Assigned.{Assigned}
 use Rattle.conflict_analysis.specs.inner.Seen.{met}
+use Rattle.conflict_analysis.proofs.BlockLemmas.{default, unplaced, walk_past}
 use Rattle.conflict_analysis.proofs.PassedEntryLemmas.{passed, passes_unmet, passes_present, passes_lower}
 use Rattle.conflict_analysis.proofs.first_uip.TrailWalk.step_past.Goals as goal
+
+pub returns-then-not-has_at-clause-walk : goal.returns-then-not-has_at-clause-walk
+returns-then-not-has_at-clause-walk c =
+    let unmarked = sym c.has_at.ensures ∙ c.if-not-has_at.true in
+    walk_past c.args.trail.now c.args.self.now c.args.i c.requires.within (unplaced c.args.trail.now _ c.args.self.now c.args.i default c.requires.walk c.requires.within unmarked) c.requires.walk
+
+pub returns-then-not-has_at-clause-here : goal.returns-then-not-has_at-clause-here
+returns-then-not-has_at-clause-here c d =
+    sym (unplaced c.args.trail.now _ c.args.self.now c.args.i d c.requires.walk c.requires.within (sym c.has_at.ensures ∙ c.if-not-has_at.true))
 
 pub returns-then-not-has-clause-walk : goal.returns-then-not-has-clause-walk
 returns-then-not-has-clause-walk c =

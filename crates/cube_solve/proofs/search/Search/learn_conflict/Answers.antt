@@ -43,8 +43,8 @@ write-requires g c =
     lemma_line (live_of c.args.self.now.state.arena) c.args.self.now.state.trail.vars c.args.id c.analyse_into.new.lemma.lits.items c.analyse_into.new.lemma.hints.items
     c.requires.id c.requires.numbers c.requires.limit c.in_ok-analyse_into.ensures.lemma.within c.in_ok-analyse_into.ensures.lemma.rup
 
-pub lower_lbds-requires : goal.lower_lbds-requires
-lower_lbds-requires g c = ((c.requires.steady).state).inside
+pub note_uses-requires : goal.note_uses-requires
+note_uses-requires g c = ((c.requires.steady).state).inside
 
 pub bump-requires-clause-met : goal.bump-requires-clause-met
 bump-requires-clause-met g c = rw (c.met.ensures, ((c.requires.steady).order).vars) (c.in_ok-analyse_into.ensures.met).within
@@ -76,7 +76,7 @@ returns-clause-steady g c =
     record {
       ready = c.in_ok-add_clause.ensures.ready;
       state = state_learned s.arena c.add_clause.new.arena c.args.id lits
-          (joined s.arena b.new.self.arena c.add_clause.new.arena c.args.id lits c.deref-5.result.now c.requires.numbers b.ensures.arena c.deref-5.ensures.value c.in_ok-add_clause.ensures.clauses)
+          (joined s.arena b.new.self.arena c.add_clause.new.arena c.args.id lits c.deref-4.result.now c.requires.numbers b.ensures.arena c.deref-4.ensures.value c.in_ok-add_clause.ensures.clauses)
           _ _ s.trail b.new.self.trail c.analyse_into.new.lemma.level (c.in_ok-add_clause.ensures.ok ∙ ap (λ (xs : List ℕ). xs ++ c.args.id ∷ []) b.ensures.attached)
           (c.requires.steady).state e.asserting e.within b.ensures.vars b.ensures.front b.ensures.kept;
       order = (b.ensures.steady).order;
@@ -101,7 +101,7 @@ returns-clause-learns g c =
         text = c.in_ok-write.ensures;
       };
       is_new = is_fresh (live_of m) es lits c.analyse_into.new.lemma.level (sound (live_of m) es s.built) s.quiet e.asserting;
-      added = joined m c.backtrack.new.self.arena c.add_clause.new.arena c.args.id lits c.deref-5.result.now c.requires.numbers c.backtrack.ensures.arena c.deref-5.ensures.value c.in_ok-add_clause.ensures.clauses;
+      added = joined m c.backtrack.new.self.arena c.add_clause.new.arena c.args.id lits c.deref-4.result.now c.requires.numbers c.backtrack.ensures.arena c.deref-4.ensures.value c.in_ok-add_clause.ensures.clauses;
     }
 
 pub list_root_literals-requires : goal.list_root_literals-requires
@@ -112,6 +112,6 @@ returns-clause-noted g c =
     let m = c.args.self.now.state.arena in
     let lits = c.analyse_into.new.lemma.lits.items in
     noted_added (live_of m) (live_of c.add_clause.new.arena) c.args.id lits c.args.self.now.units.numbers.items c.note-2.new.self.numbers.items c.note-2.ensures.kept
-    (subst (λ (C : Clause). (l : Literal) → IsUnitOf C l → IsNoted c.note-2.new.self.numbers.items (var_of l)) c.deref-6.ensures.value c.note-2.ensures.noted)
-    (joined m c.backtrack.new.self.arena c.add_clause.new.arena c.args.id lits c.deref-5.result.now c.requires.numbers c.backtrack.ensures.arena c.deref-5.ensures.value c.in_ok-add_clause.ensures.clauses)
+    (subst (λ (C : Clause). (l : Literal) → IsUnitOf C l → IsNoted c.note-2.new.self.numbers.items (var_of l)) c.deref-5.ensures.value c.note-2.ensures.noted)
+    (joined m c.backtrack.new.self.arena c.add_clause.new.arena c.args.id lits c.deref-4.result.now c.requires.numbers c.backtrack.ensures.arena c.deref-4.ensures.value c.in_ok-add_clause.ensures.clauses)
     c.requires.noted

@@ -2,13 +2,14 @@ use Rattle.std.proofs.Common.{◌+◌, length, arith}
 use Rattle.clause_arena.specs.Clauses.{live_of}
 use Rattle.cube_solve.specs.Outcome.{allowed}
 use Rattle.cube_solve.proofs.ReductionLemmas.{lemmas_same}
+use Rattle.cube_solve.proofs.CountLemmas.{counted, counts_of_model, counts_refuted, counts_at_limit}
 use Rattle.cube_solve.proofs.OutcomeLemmas.{ends_in_model, ends_refuted, ends_at_limit}
 use Rattle.cube_solve.proofs.SearchLemmas.{closed, limited, satisfied, model_read, search_same, below_next, next_number, closes_assumption, closes_clause, false_assumption}
 use Rattle.cube_solve.proofs.UnitClauseLemmas.{noted_same}
 use Rattle.cube_solve.proofs.search.Search.run.Goals as goal
 
-pub returns-in-Model : goal.returns-in-Model
-returns-in-Model g c =
+pub returns-in-Model-clause-right : goal.returns-in-Model-clause-right
+returns-in-Model-clause-right g c =
     let B = c.args.base.now in
     let q = c.args.cube.now in
     let old = c.turns.self in
@@ -18,6 +19,15 @@ returns-in-Model g c =
     ends_in_model B q c.args.limit c.in_ok-values-in-Model.values
     (model_read B q new.trail c.in_ok-values-in-Model.values c.requires.within
     (satisfied B q c.turns.learnt _ new.arena new.trail old.log s (c.descend.ensures.steady).state f.0 f.1 f.2) c.in_ok-values-in-Model.ensures.len c.in_ok-values-in-Model.ensures.values)
+
+pub returns-in-Model-clause-counts : goal.returns-in-Model-clause-counts
+returns-in-Model-clause-counts g c =
+    let B = c.args.base.now in
+    let old = c.turns.self in
+    let i = c.turns.invariant.searching in
+    let told = c.counts-counts.ensures in
+    let h = counted B c.turns.learnt old.state.arena old.state.trail old.log old.lemmas.items c.counts-counts.result i.learnt i.lemmas told.conflicts told.lemmas in
+    counts_of_model B c.args.limit c.counts-counts.result c.in_ok-values-in-Model.values old.log h told.bytes
 
 pub close-requires-clause-closing : goal.close-requires-clause-closing
 close-requires-clause-closing g c =
@@ -33,8 +43,8 @@ close-requires-clause-numbers g c =
     below_next c.args.base.now c.turns.learnt (c.len.result + 1 + c.turns.learnt) old.state.arena c.descend.new.self.arena old.state.trail old.log
     (let n = c.len.ensures in omega arith) (c.turns.invariant.searching).learnt c.descend.ensures.clauses
 
-pub returns-in-Assumption : goal.returns-in-Assumption
-returns-in-Assumption g c =
+pub returns-in-Assumption-clause-right : goal.returns-in-Assumption-clause-right
+returns-in-Assumption-clause-right g c =
     let B = c.args.base.now in
     let q = c.args.cube.now in
     let old = c.turns.self in
@@ -44,10 +54,22 @@ returns-in-Assumption g c =
     let e = c.in_ok-text-in-Assumption.ensures in
     let id = c.len.result + 1 + c.turns.learnt in
     let number = next_number B c.len.result c.turns.learnt c.vars.ensures.valid c.len.ensures (let w = c.turns.invariant.within in let l = c.min-most.ensures in omega arith) in
-    ends_refuted B q c.args.limit c.in_ok-text-in-Assumption.text
+    rw c.refuted_by.ensures.outcome (ends_refuted B q c.args.limit c.in_ok-text-in-Assumption.text
     (closed B new.trail.vars c.turns.learnt id (live_of new.arena) e.0 old.log c.in_ok-text-in-Assumption.text s.vars (let n = c.len.ensures in omega arith) number s.learnt e.1 q (allowed c.args.limit)
     (let w = c.turns.invariant.within in let l = c.min-most.ensures in omega arith)
-    (closes_assumption q (live_of new.arena) new.trail.entries new.assumed c.in-Assumption.literal e.0 c.descend.ensures.assuming ((c.descend.ensures.steady).state).built f.0 f.1 e.2))
+    (closes_assumption q (live_of new.arena) new.trail.entries new.assumed c.in-Assumption.literal e.0 c.descend.ensures.assuming ((c.descend.ensures.steady).state).built f.0 f.1 e.2)))
+
+pub returns-in-Assumption-clause-counts : goal.returns-in-Assumption-clause-counts
+returns-in-Assumption-clause-counts g c =
+    let B = c.args.base.now in
+    let old = c.turns.self in
+    let i = c.turns.invariant.searching in
+    let told = c.counts-counts-in-Assumption.ensures in
+    let h = counted B c.turns.learnt old.state.arena old.state.trail old.log old.lemmas.items c.counts-counts-in-Assumption.result i.learnt i.lemmas told.conflicts told.lemmas in
+    let e = c.in_ok-text-in-Assumption.ensures in
+    let r = c.refuted_by in
+    counts_refuted B c.args.limit c.counts-counts-in-Assumption.result r.result.counts r.result.outcome (live_of c.descend.new.self.arena) c.descend.new.self.trail.vars
+    (c.len.result + 1 + c.turns.learnt) e.0 old.log c.in_ok-text-in-Assumption.text h e.1 r.ensures.outcome r.ensures.counts
 
 pub close-requires-then-level-self-clause-numbers : goal.close-requires-then-level-self-clause-numbers
 close-requires-then-level-self-clause-numbers g c =
@@ -55,8 +77,8 @@ close-requires-then-level-self-clause-numbers g c =
     below_next c.args.base.now c.turns.learnt (c.len.result + 1 + c.turns.learnt) old.state.arena c.descend.new.self.arena old.state.trail old.log
     (let n = c.len.ensures in omega arith) (c.turns.invariant.searching).learnt c.descend.ensures.clauses
 
-pub returns-then-level-self : goal.returns-then-level-self
-returns-then-level-self g c =
+pub returns-then-level-self-clause-right : goal.returns-then-level-self-clause-right
+returns-then-level-self-clause-right g c =
     let B = c.args.base.now in
     let q = c.args.cube.now in
     let old = c.turns.self in
@@ -65,13 +87,25 @@ returns-then-level-self g c =
     let e = c.in_ok-text-in-Clause.ensures in
     let id = c.len.result + 1 + c.turns.learnt in
     let number = next_number B c.len.result c.turns.learnt c.vars.ensures.valid c.len.ensures (let w = c.turns.invariant.within in let l = c.min-most.ensures in omega arith) in
-    ends_refuted B q c.args.limit c.in_ok-text-in-Clause.text
+    rw c.refuted_by-then-level-self.ensures.outcome (ends_refuted B q c.args.limit c.in_ok-text-in-Clause.text
     (closed B new.trail.vars c.turns.learnt id (live_of new.arena) e.0 old.log c.in_ok-text-in-Clause.text s.vars (let n = c.len.ensures in omega arith) number s.learnt e.1 q (allowed c.args.limit)
     (let w = c.turns.invariant.within in let l = c.min-most.ensures in omega arith)
-    (closes_clause q new.trail.entries new.assumed c.in-Clause.number e.0 c.descend.ensures.assuming (let p = c.level.ensures.present in let t = c.if-level-self.true in omega arith) e.2))
+    (closes_clause q new.trail.entries new.assumed c.in-Clause.number e.0 c.descend.ensures.assuming (let p = c.level.ensures.present in let t = c.if-level-self.true in omega arith) e.2)))
 
-pub returns-then-learnt-most : goal.returns-then-learnt-most
-returns-then-learnt-most g c =
+pub returns-then-level-self-clause-counts : goal.returns-then-level-self-clause-counts
+returns-then-level-self-clause-counts g c =
+    let B = c.args.base.now in
+    let old = c.turns.self in
+    let i = c.turns.invariant.searching in
+    let told = c.counts-counts-then-level-self.ensures in
+    let h = counted B c.turns.learnt old.state.arena old.state.trail old.log old.lemmas.items c.counts-counts-then-level-self.result i.learnt i.lemmas told.conflicts told.lemmas in
+    let e = c.in_ok-text-in-Clause.ensures in
+    let r = c.refuted_by-then-level-self in
+    counts_refuted B c.args.limit c.counts-counts-then-level-self.result r.result.counts r.result.outcome (live_of c.descend.new.self.arena) c.descend.new.self.trail.vars
+    (c.len.result + 1 + c.turns.learnt) e.0 old.log c.in_ok-text-in-Clause.text h e.1 r.ensures.outcome r.ensures.counts
+
+pub returns-then-learnt-most-clause-right : goal.returns-then-learnt-most-clause-right
+returns-then-learnt-most-clause-right g c =
     let B = c.args.base.now in
     let q = c.args.cube.now in
     let old = c.turns.self in
@@ -81,6 +115,16 @@ returns-then-learnt-most g c =
     (rw c.into_packed.ensures
     (limited B q (allowed c.args.limit) c.turns.learnt c.in-Clause.number _ new.arena new.trail new.assumed old.log s c.descend.ensures.assuming (c.descend.ensures.steady).state c.entries.ensures.valid
     c.in-Clause.ensures.found (let p = c.level.ensures.present in let t = c.if-level-self.false in omega arith) (let e = c.if-learnt-most.true in let l = c.min-most.ensures in omega arith)))
+
+pub returns-then-learnt-most-clause-counts : goal.returns-then-learnt-most-clause-counts
+returns-then-learnt-most-clause-counts g c =
+    let B = c.args.base.now in
+    let old = c.turns.self in
+    let i = c.turns.invariant.searching in
+    let told = c.counts-counts-then-learnt-most.ensures in
+    let h = counted B c.turns.learnt old.state.arena old.state.trail old.log old.lemmas.items c.counts-counts-then-learnt-most.result i.learnt i.lemmas told.conflicts told.lemmas in
+    rw c.into_packed.ensures (counts_at_limit B c.args.limit c.counts-counts-then-learnt-most.result old.log h told.bytes
+    (let e = c.if-learnt-most.true in let l = c.min-most.ensures in let n = told.conflicts in omega arith))
 
 pub handle_conflict-requires-clause-searching : goal.handle_conflict-requires-clause-searching
 handle_conflict-requires-clause-searching g c =

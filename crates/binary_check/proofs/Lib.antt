@@ -1,3 +1,0 @@
-pub mod CheckedLemmas
-pub mod StepLemmas
-pub mod StreamLemmas

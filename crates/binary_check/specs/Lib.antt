@@ -1,4 +1,0 @@
-pub mod BinaryProof
-pub mod FirstFault
-pub mod Stream
-pub mod inner

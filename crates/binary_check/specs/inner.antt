@@ -1,3 +1,0 @@
--- What only private contracts, invariants and proofs name. Nothing here is to be believed.
-pub mod Steps
-pub mod Stream

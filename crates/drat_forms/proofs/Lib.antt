@@ -1,0 +1,14 @@
+pub mod FormLemmas
+pub mod FoundBinaryLemmas
+pub mod FoundLemmas
+pub mod FoundTextLemmas
+pub mod GrammarExamples
+pub mod OneListLemmas
+pub mod PassLemmas
+pub mod ReadingLemmas
+pub mod SpelledBinaryLemmas
+pub mod SpelledSoFar
+pub mod SpelledTextLemmas
+pub mod StepLemmas
+pub mod WholeFoundLemmas
+pub mod WholeSpelledLemmas

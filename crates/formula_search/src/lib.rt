@@ -1,0 +1,10 @@
+//! One search over a whole formula, and what is reported of it.
+//!
+//! What a layer above may rest on: a report of status 10 has an assignment that satisfies the formula, one of status 20 a proof that is
+//! accepted and that closes the tree of one leaf, and one of status 0 tells a limit that the search has met.
+#![tactic(auto)]
+
+mod decision;
+mod stats;
+
+pub use decision::{Asked, decide};

@@ -1,6 +1,0 @@
-use Rattle.dimacs.specs.logic.Limits.{written}
-use Rattle.node_main.proofs.TruthLemmas.{verified_true}
-use Rattle.node_main.proofs.commands.check.run_check.Goals as goal
-
-pub returns-clause-truth : goal.returns-clause-truth
-returns-clause-truth c = verified_true c.accepted_proofs_are_sound.ensures written c.args.input.now c.args.proof.now c.check_text.result c.check_text.ensures

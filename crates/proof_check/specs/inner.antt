@@ -1,0 +1,4 @@
+-- What only private contracts, invariants and proofs name. Nothing here is to be believed.
+pub mod Checks
+pub mod Steps
+pub mod Stream

@@ -1,0 +1,4 @@
+mod ExampleLemmas
+mod LeavesLemmas
+mod LineLemmas
+mod TruthLemmas
