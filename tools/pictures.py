@@ -35,8 +35,8 @@ KINDS: Dict[str, Tuple[str, List[str]]] = {
         "runs", "event_loop", "links", "connections", "cluster", "honest_cluster", "worker_core",
         "coordinator_core", "evidence", "frames", "hmac"]),
     "search": ("#dff0d8", [
-        "formula_search", "cube_solve", "incremental", "conflict_analysis", "decide_heap",
-        "watches", "clause_arena", "proof_trim"]),
+        "formula_search", "renumbered_logs", "elimination", "cube_solve", "incremental",
+        "conflict_analysis", "decide_heap", "watches", "clause_arena", "proof_trim"]),
     "splitting and joining": ("#f7f0c8", [
         "cube_split", "look_ahead", "icnf", "proof_join", "lrat_trim"]),
     "formulas and proofs": ("#f6d9dc", [

@@ -1,11 +1,13 @@
 -- The counts of a search are those of its log.
-use Rattle.std.proofs.Common.{◌≡◌, ℕ, ◌+◌, Bool, List, length, refl, sym, ◌∙◌, subst, arith}
+use Rattle.std.proofs.Common.{◌≡◌, ℕ, ◌+◌, Bool, List, [], length, Option, Some, refl, sym, ◌∙◌, subst, arith}
 use Rattle.dimacs.specs.logic.Cnf.{Cnf}
 use Rattle.dimacs.specs.logic.ClauseMap.{Live}
 use Rattle.dimacs.specs.logic.Literal.{Clause}
 use Rattle.clause_arena.specs.Clauses.{Clauses, live_of}
 use Rattle.watches.specs.Trails.{TrailValue}
-use Rattle.cube_solve.specs.Counts.{AreCounts, IsCounted}
+use Rattle.lrat_text.specs.declared.step.Step.TheVariants.{Add}
+use Rattle.lrat_text.proofs.LineLemmas.{step_more}
+use Rattle.cube_solve.specs.Counts.{AreCounts, HasLog, IsCounted}
 use Rattle.cube_solve.specs.Outcome.{allowed}
 use Rattle.cube_solve.specs.declared.observer.Counts.{Counts}
 use Rattle.cube_solve.specs.declared.outcome.Outcome.{Outcome}
@@ -35,6 +37,10 @@ pub counts_of_model : (B : Cnf) (most : ℕ) (c : Counts) (values : List Bool) (
     → AreCounts B most c (outcome.Model values)
 counts_of_model B most c values text h is = (text, h, sym is)
 
+pub log_of_model : (B : Cnf) (c : Counts) (values : List Bool) (log text : List ℕ) → IsCounted B c text → c.bytes ≡ length text → log ≡ text
+    → HasLog B c (outcome.Model values) (Some log)
+log_of_model B c values log text h is same = subst (λ x. IsCounted B c x × (length x ≡ c.bytes)) (sym same) (h, sym is)
+
 pub counts_at_limit : (B : Cnf) (most : ℕ) (c : Counts) (text : List ℕ) → IsCounted B c text → c.bytes ≡ length text → c.conflicts ≡ allowed most
     → AreCounts B most c (outcome.Limit text)
 counts_at_limit B most c text h is full = (h, sym is, full)
@@ -49,6 +55,7 @@ counts_refuted B most c d o live vars id lits before text h w is same =
         id = id;
         lits = lits;
         hints = w.hints;
+        limits = step_more vars 199999999 w.few (Add id lits w.hints []) w.limits;
         whole = w.text;
       },
       refl,

@@ -1,10 +1,10 @@
 -- What the counts of a search say of its log.
-use Rattle.std.specs.Prelude.{◌≡◌, ℕ, ◌<◌, List, [], ◌++◌, length, All}
+use Rattle.std.specs.Prelude.{◌≡◌, ℕ, ◌<◌, List, [], ◌++◌, length, All, Option, Some, None}
 use Rattle.std.specs.List.{AllPairs}
 use Rattle.dimacs.specs.logic.Cnf.{Cnf}
 use Rattle.dimacs.specs.logic.ClauseMap.{ClauseMap, map_of, live_in}
 use Rattle.dimacs.specs.logic.Literal.{Clause}
-use Rattle.lrat_text.specs.Grammar.{LineSpellsWithin}
+use Rattle.lrat_text.specs.Grammar.{IsStepWithin, LineSpellsWithin}
 use Rattle.lrat_text.specs.Log.{IsLog, additions, log_top}
 use Rattle.lrat_text.specs.Runs.{after_steps}
 use Rattle.lrat_text.specs.WrittenLine.{line_of}
@@ -38,6 +38,7 @@ pub record IsCountedToEnd (B : Cnf) (c : Counts) (text : List ℕ) : Type 0 wher
   pub id : ℕ
   pub lits : Clause
   pub hints : List ℕ
+  pub limits : IsStepWithin 199999999 (Add id lits hints [])
   pub whole : text ≡ before ++ line_of id (Add id lits hints [])
 
 -- the counts of a search with a limit of `most` lemmas are those of its log, whose bytes are counted too: a refutation is one, with the
@@ -46,3 +47,10 @@ abbrev pub AreCounts : Cnf → ℕ → Counts → Outcome → Type 0
 AreCounts B most c (outcome.Model values) = (text : List ℕ) × IsCounted B c text × (length text ≡ c.bytes)
 AreCounts B most c (outcome.Refuted text) = IsCountedToEnd B c text × (length text ≡ c.bytes)
 AreCounts B most c (outcome.Limit text) = IsCounted B c text × (length text ≡ c.bytes) × (c.conflicts ≡ allowed most)
+
+-- a search that found an assignment hands out its log, of which the counts tell; else the log is in the outcome
+abbrev pub HasLog : Cnf → Counts → Outcome → Option (List ℕ) → Type 0
+HasLog B c (outcome.Model values) (Some text) = IsCounted B c text × (length text ≡ c.bytes)
+HasLog B c (outcome.Model values) None = ⊥
+HasLog B c (outcome.Refuted text) log = log ≡ None
+HasLog B c (outcome.Limit text) log = log ≡ None

@@ -1,6 +1,6 @@
 //! The counts of a search: what an observer is shown, and what stands beside its outcome.
 
-ghost use Rattle.std.specs.Prelude.{◌≡◌, length};
+ghost use Rattle.std.specs.Prelude.{◌≡◌, length, None};
 ghost use Rattle.cube_solve.specs.declared.outcome.Outcome.TheVariants.{Refuted};
 
 use crate::observer::{Counts, Observer};
@@ -21,11 +21,13 @@ fn count_fixed(entries: &[Assigned]) -> u64 {
 pub(crate) fn refuted_by(text: PackedText, counts: Counts) -> Searched
     ensures outcome { result.outcome ≡ Refuted text }
     ensures counts { result.counts ≡ record counts { bytes = length text } }
+    ensures log { result.log ≡ None }
 {
     let bytes = text.len() as u64;
     Searched {
         outcome: Outcome::Refuted(text),
         counts: Counts { bytes, ..counts },
+        log: None,
     }
 }
 

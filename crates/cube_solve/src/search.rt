@@ -13,7 +13,7 @@ ghost use Rattle.conflict_analysis.specs.Lemmas.{IsClosing, NegatesAssumptions};
 ghost use Rattle.cube_solve.specs.inner.Reduction.{AreRising, AreLemmas, DeletesLemmas, MayReduce};
 ghost use Rattle.cube_solve.specs.inner.LearntLog.{AreBelow, IsWritten, Learns};
 ghost use Rattle.cube_solve.specs.inner.Twins.{AreLinked, IsAdded};
-ghost use Rattle.cube_solve.specs.Counts.{AreCounts};
+ghost use Rattle.cube_solve.specs.Counts.{AreCounts, HasLog};
 ghost use Rattle.cube_solve.specs.Outcome.{IsRightOutcome};
 ghost use Rattle.cube_solve.specs.inner.State.{IsAssuming};
 ghost use Rattle.cube_solve.specs.inner.SearchInvariants.{IsSteady, IsSearching};
@@ -394,6 +394,7 @@ impl<'a, P: Propagator> Search<'a, P> {
         requires within { All (IsWithin base.now.vars) cube.now }
         ensures right { IfOk result (λ s. IsRightOutcome base.now cube.now limit s.outcome) }
         ensures counts { IfOk result (λ s. AreCounts base.now limit s.counts s.outcome) }
+        ensures log { IfOk result (λ s. HasLog base.now s.counts s.outcome s.log) }
     {
         let _ = base.vars(); // tells the proof a bound of the number of clauses
         let most = limit.min(1 << 47);
@@ -404,8 +405,11 @@ impl<'a, P: Propagator> Search<'a, P> {
                 Found::Model => {
                     let counts = self.counts(learnt);
                     let values = read_model(self.alloc, &self.state.trail)?;
-                    let outcome = Outcome::Model(values);
-                    return Ok(Searched { outcome, counts });
+                    return Ok(Searched {
+                        outcome: Outcome::Model(values),
+                        counts,
+                        log: Some(self.into_packed()),
+                    });
                 }
                 Found::Assumption(literal) => {
                     let counts = self.counts(learnt);
@@ -421,8 +425,11 @@ impl<'a, P: Propagator> Search<'a, P> {
                     if learnt == most {
                         let counts = self.counts(learnt);
                         let _ = self.state.trail.entries(); // tells the proof that no two have one variable
-                        let outcome = Outcome::Limit(self.into_packed());
-                        return Ok(Searched { outcome, counts });
+                        return Ok(Searched {
+                            outcome: Outcome::Limit(self.into_packed()),
+                            counts,
+                            log: None,
+                        });
                     }
                     self.handle_conflict(base, number, learnt)?;
                     learnt += 1;

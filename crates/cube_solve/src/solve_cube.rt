@@ -3,7 +3,7 @@
 ghost use Rattle.std.specs.Prelude.{◌≡◌, [], map, nat_eq, All, IfOk};
 ghost use Rattle.std.specs.List.{IsDistinct};
 ghost use Rattle.dimacs.specs.logic.Literal.{IsWithin, var_of};
-ghost use Rattle.cube_solve.specs.Counts.{AreCounts};
+ghost use Rattle.cube_solve.specs.Counts.{AreCounts, HasLog};
 ghost use Rattle.cube_solve.specs.Outcome.{IsRightOutcome};
 
 use crate::observer::{Observer, Unobserved};
@@ -48,7 +48,8 @@ pub fn solve(alloc: Global, base: &Base, cube: &[Lit], limit: u64) -> Result<Out
 }
 
 /// Searches as [`solve`] does, shows an observer the counts of the search after each 1,000 conflicts and at its end, and answers them
-/// beside the outcome.
+/// beside the outcome,
+/// and the log if it found an assignment.
 pub fn solve_observed<O: Observer>(
     alloc: Global,
     base: &Base,
@@ -60,6 +61,7 @@ pub fn solve_observed<O: Observer>(
     requires within { All (IsWithin base.now.vars) cube.now }
     ensures right { IfOk result (λ s. IsRightOutcome base.now cube.now limit s.outcome) }
     ensures counts { IfOk result (λ s. AreCounts base.now limit s.counts s.outcome) }
+    ensures log { IfOk result (λ s. HasLog base.now s.counts s.outcome s.log) }
 {
     let mut watched = Watched::new(alloc);
     let search = Search::new(alloc, &mut watched, base)?;

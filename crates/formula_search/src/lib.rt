@@ -5,6 +5,7 @@
 #![tactic(auto)]
 
 mod decision;
+mod kept_search;
 mod stats;
 
 pub use decision::{Asked, decide};

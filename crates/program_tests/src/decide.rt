@@ -3,6 +3,7 @@
 use crate::check::FOUR;
 use crate::run_reports::{refutes, says};
 use crate::solve::EIGHT;
+use crate::solve_profile::pigeons;
 use cube_solve::{Counts, Observer, Unobserved};
 use dimacs::{Formula, read};
 use formula_search::{Asked, decide};
@@ -115,4 +116,21 @@ fn an_observer_changes_no_byte_of_the_proof(rt: HostRuntime) {
     let seen = decide(a, &formula_of(&rt, a, EIGHT), PLAIN, &mut looks).expect(&rt, "memory");
     let proof = refutes(&rt, a, EIGHT, &decided(&rt, a, EIGHT, PLAIN));
     assert!(&rt; looks.count == 1 && refutes(&rt, a, EIGHT, &seen) == proof);
+}
+
+/// Eight pigeons in seven holes take more than 2,000 lemmas, so that variables are eliminated.
+#[test]
+fn resolvents_come_first_in_the_proof_of_a_longer_search(rt: HostRuntime) {
+    let text = pigeons(&rt, rt.alloc());
+    let input = text.as_str().as_bytes();
+    closes(&rt, rt.alloc(), input);
+    let proof = refutes(&rt, rt.alloc(), input, &decided(&rt, rt.alloc(), input, PLAIN));
+    // Pigeon 1 is not alone: clause 1 says it sits somewhere, clause 156 that it shares no hole.
+    assert!(&rt; proof.as_slice().starts_with(b"205 2 3 4 5 6 7 -50 0 1 156 0\n"));
+    let most = Asked {
+        limit: Some(100_000),
+        ..PLAIN
+    };
+    let searched = refutes(&rt, rt.alloc(), input, &decided(&rt, rt.alloc(), input, most));
+    assert!(&rt; searched != proof);
 }

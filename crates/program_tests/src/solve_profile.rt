@@ -29,7 +29,7 @@ fn put_apart(rt: &impl Abort, text: &mut String, first: u32, other: u32)
 
 /// Eight pigeons sit in seven holes, and no two of them in one: the variable of a pigeon and a hole is seven times the
 /// pigeon's number, and the hole's, from 1.
-fn pigeons(rt: &impl Abort, alloc: Global) -> String {
+pub(crate) fn pigeons(rt: &impl Abort, alloc: Global) -> String {
     let mut text = String::new(alloc);
     write!(text, "p cnf 56 204\n").expect(rt, "memory");
     for pigeon in 0..8u32 {

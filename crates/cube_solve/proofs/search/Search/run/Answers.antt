@@ -2,7 +2,7 @@ use Rattle.std.proofs.Common.{◌+◌, length, arith}
 use Rattle.clause_arena.specs.Clauses.{live_of}
 use Rattle.cube_solve.specs.Outcome.{allowed}
 use Rattle.cube_solve.proofs.ReductionLemmas.{lemmas_same}
-use Rattle.cube_solve.proofs.CountLemmas.{counted, counts_of_model, counts_refuted, counts_at_limit}
+use Rattle.cube_solve.proofs.CountLemmas.{counted, counts_of_model, log_of_model, counts_refuted, counts_at_limit}
 use Rattle.cube_solve.proofs.OutcomeLemmas.{ends_in_model, ends_refuted, ends_at_limit}
 use Rattle.cube_solve.proofs.SearchLemmas.{closed, limited, satisfied, model_read, search_same, below_next, next_number, closes_assumption, closes_clause, false_assumption}
 use Rattle.cube_solve.proofs.UnitClauseLemmas.{noted_same}
@@ -28,6 +28,15 @@ returns-in-Model-clause-counts g c =
     let told = c.counts-counts.ensures in
     let h = counted B c.turns.learnt old.state.arena old.state.trail old.log old.lemmas.items c.counts-counts.result i.learnt i.lemmas told.conflicts told.lemmas in
     counts_of_model B c.args.limit c.counts-counts.result c.in_ok-values-in-Model.values old.log h told.bytes
+
+pub returns-in-Model-clause-log : goal.returns-in-Model-clause-log
+returns-in-Model-clause-log g c =
+    let B = c.args.base.now in
+    let old = c.turns.self in
+    let i = c.turns.invariant.searching in
+    let told = c.counts-counts.ensures in
+    let h = counted B c.turns.learnt old.state.arena old.state.trail old.log old.lemmas.items c.counts-counts.result i.learnt i.lemmas told.conflicts told.lemmas in
+    log_of_model B c.counts-counts.result c.in_ok-values-in-Model.values c.into_packed.result old.log h told.bytes c.into_packed.ensures
 
 pub close-requires-clause-closing : goal.close-requires-clause-closing
 close-requires-clause-closing g c =
@@ -111,8 +120,8 @@ returns-then-learnt-most-clause-right g c =
     let old = c.turns.self in
     let new = c.descend.new.self in
     let s = search_same B c.turns.learnt old.state.arena new.arena old.state.trail new.trail old.log (c.turns.invariant.searching).learnt c.descend.ensures.clauses c.descend.ensures.vars in
-    ends_at_limit B q c.args.limit c.into_packed.result
-    (rw c.into_packed.ensures
+    ends_at_limit B q c.args.limit c.into_packed-then-learnt-most.result
+    (rw c.into_packed-then-learnt-most.ensures
     (limited B q (allowed c.args.limit) c.turns.learnt c.in-Clause.number _ new.arena new.trail new.assumed old.log s c.descend.ensures.assuming (c.descend.ensures.steady).state c.entries.ensures.valid
     c.in-Clause.ensures.found (let p = c.level.ensures.present in let t = c.if-level-self.false in omega arith) (let e = c.if-learnt-most.true in let l = c.min-most.ensures in omega arith)))
 
@@ -123,7 +132,7 @@ returns-then-learnt-most-clause-counts g c =
     let i = c.turns.invariant.searching in
     let told = c.counts-counts-then-learnt-most.ensures in
     let h = counted B c.turns.learnt old.state.arena old.state.trail old.log old.lemmas.items c.counts-counts-then-learnt-most.result i.learnt i.lemmas told.conflicts told.lemmas in
-    rw c.into_packed.ensures (counts_at_limit B c.args.limit c.counts-counts-then-learnt-most.result old.log h told.bytes
+    rw c.into_packed-then-learnt-most.ensures (counts_at_limit B c.args.limit c.counts-counts-then-learnt-most.result old.log h told.bytes
     (let e = c.if-learnt-most.true in let l = c.min-most.ensures in let n = told.conflicts in omega arith))
 
 pub handle_conflict-requires-clause-searching : goal.handle_conflict-requires-clause-searching

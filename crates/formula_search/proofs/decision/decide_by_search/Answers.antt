@@ -1,6 +1,6 @@
 use Rattle.std.proofs.Common.{[], nat_eq}
 use Rattle.std.specs.List.{IsDistinct}
-use Rattle.formula_search.proofs.decision.decide.Goals as goal
+use Rattle.formula_search.proofs.decision.decide_by_search.Goals as goal
 
 none : IsDistinct nat_eq []
 unfolding IsDistinct

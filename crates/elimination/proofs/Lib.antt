@@ -1,0 +1,4 @@
+pub mod AddingLemmas
+pub mod GatherLemmas
+pub mod IndexLemmas
+pub mod PickLemmas
