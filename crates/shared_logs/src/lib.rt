@@ -8,4 +8,4 @@ mod examples;
 mod laws;
 
 pub use examples::{worked_cell, worked_circle};
-pub use laws::{shared_leaves_refute, shared_lemmas_follow};
+pub use laws::{a_woven_log_closes, shared_leaves_refute, shared_lemmas_follow};
