@@ -25,7 +25,7 @@ inserted_same M n q C D e same = subst (λ k. get (insert M n C) k ≡ Some D) (
 pub inserted_other : (M : ClauseMap) (n q : ℕ) (C D : Clause) → q ≢ n → live_in M q D → live_in (insert M n C) q D
 inserted_other M n q C D ne h = get_other M n q C ne ∙ h
 
-get_without : (M : ClauseMap) (ids : List ℕ) (q : ℕ) → get (without M ids) q ≡ cond (not (list_any (nat_eq q) ids)) (get M q) None
+pub get_without : (M : ClauseMap) (ids : List ℕ) (q : ℕ) → get (without M ids) q ≡ cond (not (list_any (nat_eq q) ids)) (get M q) None
 get_without M ids q = get-retain_keys M (λ id. not (list_any (nat_eq id) ids)) q
     (λ x e. ap (λ (y : ℕ). not (list_any (nat_eq y) ids)) (sym (nat_cmp-IsAntisymmetric q x e)))
 

@@ -5,4 +5,5 @@ mod LeavesLemmas
 mod LineLemmas
 mod NumberingLemmas
 mod TruthLemmas
+mod WeavingExample
 mod WovenLemmas
