@@ -1,5 +1,5 @@
 -- Up to a lemma that closes a leaf, what the lines make is a log that ends there.
-use Rattle.std.proofs.Common.{◌≡◌, ℕ, inl, inr, Bool, true, false, List, [], ◌∷◌, ◌++◌, length, bytes_eq, if◌then◌else◌, refl, sym, ◌∙◌, ap, subst, append_assoc}
+use Rattle.std.proofs.Common.{◌≡◌, ℕ, ◌+◌, map, inl, inr, Bool, true, false, List, [], ◌∷◌, ◌++◌, length, bytes_eq, if◌then◌else◌, refl, sym, ◌∙◌, ap, subst, append_assoc}
 use Rattle.std.specs.List.{Contains}
 use Rattle.std.proofs.lemmas.List.Elements.{Contains-append_right}
 use Rattle.std.proofs.lemmas.Slice.Eq.{bytes_eq-Decides}
@@ -9,10 +9,12 @@ use Rattle.dimacs.specs.logic.Literal.{Literal, negation}
 use Rattle.dimacs.proofs.Members.{Contains-head, Contains-cons, Contains-cons_cases, Contains-nil}
 use Rattle.icnf.specs.Leaves.{Cube}
 use Rattle.lrat_text.specs.Log.{AreLogSteps, EndsAt, IsLog, Negates, after_step, top_after}
+use Rattle.lrat_text.specs.Proof.{without}
+use Rattle.lrat_text.specs.Runs.{after_steps, top_of}
 use Rattle.lrat_text.specs.declared.step.Step.{Step}
-use Rattle.lrat_text.specs.declared.step.Step.TheVariants.{Delete}
+use Rattle.lrat_text.specs.declared.step.Step.TheVariants.{Add, Delete}
 use Rattle.shared_logs.specs.SharedLogs.{SharedStep, Lemma, Import, Deletion, Clock}
-use Rattle.shared_logs.specs.WovenLogs.{HavePartThatCloses, NamedLine, Numbering, Weaves, ends, lemma, import, deletion, clock, deletes, WholeCellsClose, WovenLogsClose, lines_of}
+use Rattle.shared_logs.specs.WovenLogs.{HavePartThatCloses, NamedLine, Numbering, Weaves, ends, takes, deletes, WholeCellsClose, WovenLogsClose, lines_of, numbering_after, written}
 use Rattle.shared_logs.proofs.WovenLemmas.{woven_logs_are_logs}
 
 -- the line is a lemma that closes the leaf of the cube
@@ -26,31 +28,27 @@ Closing q (Clock time) = ⊥
 abbrev HasClosing : Cube → List Step → Type 0
 HasClosing q steps = (before : List Step) × (step : Step) × (after : List Step) × (steps ≡ before ++ step ∷ after) × Negates q step
 
-step_later : (q : Cube) (x : Step) (steps : List Step) → HasClosing q steps → HasClosing q (x ∷ steps)
-step_later q x steps (before, step, after, splits, negates) = (x ∷ before, step, after, ap (λ (ss : List Step). x ∷ ss) splits, negates)
+steps_later : (q : Cube) (xs steps : List Step) → HasClosing q steps → HasClosing q (xs ++ steps)
+steps_later q xs steps (before, step, after, splits, negates) =
+    (xs ++ before, step, after, ap (λ (ss : List Step). xs ++ ss) splits ∙ sym (append_assoc xs before (step ∷ after)), negates)
 
-line_later : (q : Cube) (x y : NamedLine) (lines : List NamedLine) → Contains (x ∷ lines) y → Closing q y.1 → (Closing q x.1 → ⊥) → Contains lines y
-line_later q x y lines i closing other = elim (Contains-cons_cases x y lines i) [
-  | inl e ↦ absurd (other (subst (λ (z : NamedLine). Closing q z.1) (sym e) closing))
-  | inr later ↦ later
-]
+closing_written : (q : Cube) (f : Numbering) (top : ℕ) (x : NamedLine) (steps : List Step) → Closing q x.1 → HasClosing q (written f top x ++ steps)
+closing_written q f top (name, Lemma number C hints) steps closing = ([], Add (top + 1) C (map (f name) hints) [], steps, refl, closing)
+closing_written q f top (name, Import number C other there) steps closing = absurd closing
+closing_written q f top (name, Deletion numbers) steps closing = absurd closing
+closing_written q f top (name, Clock time) steps closing = absurd closing
 
 closing_made : (q : Cube) (m : ℕ) (y : NamedLine) → Closing q y.1 → (f : Numbering) (M : ClauseMap) (top : ℕ) (lines : List NamedLine) (steps : List Step)
     → Weaves m f M top lines steps → Contains lines y → HasClosing q steps
 closing_made q m y closing f M top [] [] ends i = absurd (Contains-nil y i)
-closing_made q m y closing f M top _ _ (lemma {name = name} {number = number} {C = C} {hints = hints} {lines = lines} {steps = steps} rest) i =
-    elim (Contains-cons_cases (name, Lemma number C hints) y lines i) [
-      | inl e ↦ ([], _, steps, refl, subst (λ (z : NamedLine). Closing q z.1) (sym e) closing)
-      | inr later ↦ step_later q _ steps (closing_made q m y closing _ _ _ lines steps rest later)
-    ]
-closing_made q m y closing f M top _ steps (import {name = name} {number = number} {C = C} {other = other} {there = there} {lines = lines} rest) i =
-    closing_made q m y closing _ M top lines steps rest (line_later q (name, Import number C other there) y lines i closing (λ x. x))
-closing_made q m y closing f M top _ steps (deletion {name = name} {numbers = numbers} {lines = lines} rest) i =
-    closing_made q m y closing f M top lines steps rest (line_later q (name, Deletion numbers) y lines i closing (λ x. x))
-closing_made q m y closing f M top _ steps (clock {name = name} {time = time} {lines = lines} rest) i =
-    closing_made q m y closing f M top lines steps rest (line_later q (name, Clock time) y lines i closing (λ x. x))
+closing_made q m y closing f M top _ _ (takes {x = x} {lines = lines} {steps = steps} rest) i = elim (Contains-cons_cases x y lines i) [
+  | inl e ↦ closing_written q f top x steps (subst (λ (z : NamedLine). Closing q z.1) (sym e) closing)
+  | inr later ↦
+      steps_later q (written f top x) steps
+      (closing_made q m y closing (numbering_after f top x) (after_steps M (written f top x)) (top_of top (written f top x)) lines steps rest later)
+]
 closing_made q m y closing f M top lines _ (deletes {ids = ids} {steps = steps} step unused rest) i =
-    step_later q (Delete ids) steps (closing_made q m y closing f _ top lines steps rest i)
+    steps_later q (Delete ids ∷ []) steps (closing_made q m y closing f (without M ids) top lines steps rest i)
 
 first_steps : (m : ℕ) (M : ClauseMap) (top : ℕ) (xs ys : List Step) → AreLogSteps m M top (xs ++ ys) → AreLogSteps m M top xs
 first_steps m M top [] ys h = tt

@@ -1,5 +1,5 @@
--- Which lines use a clause of the one log, and hints under its numbers.
-use Rattle.std.proofs.Common.{◌≡◌, ℕ, inl, inr, ◌⊎◌, Bool, true, false, ◌&&◌, ◌==◌, List, [], ◌∷◌, ◌++◌, map, bytes_eq, if◌then◌else◌, refl, sym, ◌∙◌, ap, subst}
+-- Numbers of the one log, and hints by them.
+use Rattle.std.proofs.Common.{◌≡◌, ℕ, inl, inr, ◌⊎◌, Bool, true, false, ◌&&◌, ◌==◌, List, [], ◌∷◌, ◌++◌, map, bytes_eq, if◌then◌else◌, refl, sym, ap, subst}
 use Rattle.std.specs.List.{Contains}
 use Rattle.std.proofs.lemmas.Bool.{both_ways}
 use Rattle.std.proofs.lemmas.Bool.Decides.{Decides-eqb}
@@ -10,8 +10,7 @@ use Rattle.dimacs.specs.logic.ClauseMap.{Live}
 use Rattle.dimacs.specs.logic.Literal.{Clause}
 use Rattle.dimacs.specs.logic.Propagation.{Assumed, Leads, Rup, negations, with_literal}
 use Rattle.dimacs.proofs.Members.{Contains-head, Contains-cons, Contains-cons_cases, Contains-nil}
-use Rattle.shared_logs.specs.SharedLogs.{Lemma, Import, Deletion, Clock}
-use Rattle.shared_logs.specs.WovenLogs.{AreUsing, NamedLine, Numbering, Uses, with_number}
+use Rattle.shared_logs.specs.WovenLogs.{Numbering, with_number}
 
 -- ---- one number more
 pub number_cases : (f : Numbering) (name : List ℕ) (n g : ℕ) (other : List ℕ) (k : ℕ)
@@ -23,42 +22,6 @@ number_cases f name n g other k = at (bytes_eq name other) (n == k) refl refl
     at true true p q = inl ((bytes_eq-Decides name other).0 p, (Decides-eqb n k).0 q, refl)
     at true false p q = inr (λ e same. both_ways (n == k) q ((Decides-eqb n k).1 same), refl)
     at false b p q = inr (λ e same. both_ways (bytes_eq name other) p ((bytes_eq-Decides name other).1 e), refl)
-
--- a use of clause g apart, the lines use what they used before
-module _ (f : Numbering) (name : List ℕ) (n g : ℕ) where
-  hints_back : (other : List ℕ) (hints : List ℕ) (id : ℕ) → Contains (map (with_number f name n g other) hints) id → (g ≡ id) ⊎ Contains (map (f other) hints) id
-  hints_back other [] id i = absurd (Contains-nil id i)
-  hints_back other (h ∷ hints) id i = elim (Contains-cons_cases (with_number f name n g other h) id (map (with_number f name n g other) hints) i) [
-    | inl e ↦ elim (number_cases f name n g other h) [
-      | inl (a, b, w) ↦ inl (sym w ∙ e)
-      | inr (a, w) ↦ inr (subst (λ k. Contains (map (f other) (h ∷ hints)) k) (sym w ∙ e) (Contains-head (f other h) (map (f other) hints)))
-    ]
-    | inr later ↦ elim (hints_back other hints id later) [
-      | inl e ↦ inl e
-      | inr r ↦ inr (Contains-cons (f other h) id (map (f other) hints) r)
-    ]
-  ]
-
-  uses_back : (x : NamedLine) (id : ℕ) → Uses (with_number f name n g) x id → (g ≡ id) ⊎ Uses f x id
-  uses_back (other, Lemma number C hints) id u = hints_back other hints id u
-  uses_back (other, Import number C from there) id u = elim (number_cases f name n g from there) [
-    | inl (a, b, w) ↦ inl (sym w ∙ u)
-    | inr (a, w) ↦ inr (sym w ∙ u)
-  ]
-  uses_back (other, Deletion numbers) id u = absurd u
-  uses_back (other, Clock time) id u = absurd u
-
-  pub using_back : (lines : List NamedLine) (id : ℕ) → AreUsing (with_number f name n g) lines id → (g ≡ id) ⊎ AreUsing f lines id
-  using_back lines id (x, within, u) = elim (uses_back x id u) [
-    | inl e ↦ inl e
-    | inr r ↦ inr (x, within, r)
-  ]
-
-pub using_later : (f : Numbering) (x : NamedLine) (lines : List NamedLine) (id : ℕ) → AreUsing f lines id → AreUsing f (x ∷ lines) id
-using_later f x lines id (y, within, u) = (y, Contains-cons x y lines within, u)
-
-pub using_now : (f : Numbering) (x : NamedLine) (lines : List NamedLine) (id : ℕ) → Uses f x id → AreUsing f (x ∷ lines) id
-using_now f x lines id u = (x, Contains-head x lines, u)
 
 pub hint_used : (f : ℕ → ℕ) (hints : List ℕ) (h : ℕ) → Contains hints h → Contains (map f hints) (f h)
 hint_used f [] h i = absurd (Contains-nil h i)

@@ -14,7 +14,7 @@ use Rattle.lrat_text.specs.declared.step.Step.TheVariants.{Add, Delete}
 use Rattle.lrat_text.proofs.ClauseMapLemmas.{get_here, get_other, none_some}
 use Rattle.shared_logs.specs.Examples.{all_four, deleted_early, first, imported_early, one, one_log, second, third, three, three_lines, two}
 use Rattle.shared_logs.specs.SharedLogs.{SharedStep, Lemma, Import, Deletion, Clock, SharedLog, clock_of}
-use Rattle.shared_logs.specs.WovenLogs.{AreAllLines, AreByClock, AreUsing, AreWoven, HasMore, NamedLine, Numbering, Uses, ends, lemma, import, deletion, clock, deletes, lines_of, own_numbers, with_number}
+use Rattle.shared_logs.specs.WovenLogs.{AreAllLines, AreByClock, AreUsing, AreWoven, HasMore, NamedLine, Numbering, ends, takes, deletes, lines_of, own_numbers, with_number}
 use Rattle.shared_logs.proofs.ExampleLemmas.{each_of_three, in_first, in_second, in_third, one_distinct, three_are}
 use Rattle.shared_logs.proofs.GivenLemmas.{get_without}
 use Rattle.shared_logs.proofs.WovenLemmas.{woven_logs_are_logs}
@@ -137,8 +137,8 @@ last_lines = (codes "c", Import 5 two (codes "b") 6) ∷ (codes "c", Lemma 6 [] 
 not_five : (k : ℕ) → k ≡ 5 → 6 ≤ k → ⊥
 not_five k e l = omega arith
 
-no_hint : Contains {X = ℕ} (0 ∷ 2 ∷ 4 ∷ []) 5 → ⊥
-no_hint i = elim (Contains-cons_cases 0 5 (2 ∷ 4 ∷ []) i) [
+no_hint : Contains {X = ℕ} (6 ∷ 2 ∷ 4 ∷ []) 5 → ⊥
+no_hint i = elim (Contains-cons_cases 6 5 (2 ∷ 4 ∷ []) i) [
   | inl e ↦ omega arith
   | inr i ↦ elim (Contains-cons_cases 2 5 (4 ∷ []) i) [
     | inl e ↦ omega arith
@@ -146,29 +146,20 @@ no_hint i = elim (Contains-cons_cases 0 5 (2 ∷ 4 ∷ []) i) [
   ]
 ]
 
-unused : (g : ℕ) → Contains (5 ∷ []) g → ¬ (AreUsing after_two last_lines g)
+unused : (g : ℕ) → Contains (5 ∷ []) g → ¬ (AreUsing after_two 6 last_lines g)
 unused g i using = elim (Contains-cons_cases 5 g [] i) [
-  | inl e ↦ five (subst (AreUsing after_two last_lines) (sym e) using)
+  | inl e ↦ five (subst (AreUsing after_two 6 last_lines) (sym e) using)
   | inr none ↦ Contains-nil g none
 ]
   where
-    five : AreUsing after_two last_lines 5 → ⊥
-    five (x, within, uses) = elim (Contains-cons_cases (codes "c", Import 5 two (codes "b") 6) x rest within) [
-      | inl e ↦ not_five 6 (subst (λ z. Uses after_two z 5) (sym e) uses) (omega arith)
-      | inr i ↦ elim (Contains-cons_cases (codes "c", Lemma 6 [] (5 ∷ 2 ∷ 4 ∷ [])) x ((codes "a", Deletion (5 ∷ [])) ∷ []) i) [
-        | inl e ↦ no_hint (subst (λ z. Uses after_two z 5) (sym e) uses)
-        | inr i ↦ elim (Contains-cons_cases (codes "a", Deletion (5 ∷ [])) x [] i) [
-          | inl e ↦ subst (λ z. Uses after_two z 5) (sym e) uses
-          | inr none ↦ Contains-nil x none
-        ]
-      ]
-    ]
-      where
-        rest : List NamedLine
-        rest = (codes "c", Lemma 6 [] (5 ∷ 2 ∷ 4 ∷ [])) ∷ (codes "a", Deletion (5 ∷ [])) ∷ []
+    five : AreUsing after_two 6 last_lines 5 → ⊥
+    five (inl e) = not_five 6 e (omega arith)
+    five (inr (inl i)) = no_hint i
+    five (inr (inr (inl none))) = none
+    five (inr (inr (inr none))) = none
 
 pub is_woven : AreWoven all_four three_lines one_log
-is_woven = lemma (clock (clock (clock (import (lemma (deletes deletes_five unused (import (lemma (deletion ends)))))))))
+is_woven = takes (takes (takes (takes (takes (takes (deletes deletes_five unused (takes (takes (takes ends)))))))))
 
 pub is_log : IsLog all_four one_log
 is_log = woven_logs_are_logs all_four three three_lines one_log three_are in_order is_woven

@@ -14,13 +14,15 @@ use Rattle.dimacs.specs.logic.Literal.{Clause}
 use Rattle.dimacs.proofs.Members.{Contains-head}
 use Rattle.lrat_text.specs.Log.{AreLogSteps}
 use Rattle.lrat_text.specs.Proof.{without}
+use Rattle.lrat_text.specs.Runs.{after_steps, top_of}
 use Rattle.lrat_text.specs.declared.step.Step.{Step}
+use Rattle.lrat_text.proofs.RunLemmas.{log_append}
 use Rattle.lrat_text.proofs.ClauseMapLemmas.{get_here, numbered_between}
 use Rattle.shared_logs.specs.SharedLogs.{SharedStep, Lemma, Import, Deletion, Clock, SharedLog, Cell, IsCell, IsSharedStep, IsSharedLog, HasLine, initial_state, clock_after, clock_of}
-use Rattle.shared_logs.specs.WovenLogs.{AreByClock, AreUsing, NamedLine, Numbering, Weaves, ends, lemma, import, deletion, clock, deletes, WovenLogsAreLogs, lines_of, own_numbers, with_number}
+use Rattle.shared_logs.specs.WovenLogs.{AreByClock, AreUsing, NamedLine, Numbering, Weaves, ends, takes, deletes, WovenLogsAreLogs, lines_of, numbering_after, own_numbers, with_number, written}
 use Rattle.shared_logs.proofs.GivenLemmas.{among_log, clock_is, given, given_after, inserted_cases, inserted_other, lemma_given, live_without, state_after, steps_split}
 use Rattle.shared_logs.proofs.LineLemmas.{clocks_rise}
-use Rattle.shared_logs.proofs.NumberingLemmas.{hint_used, number_cases, rup_renumbered, using_back, using_later, using_now}
+use Rattle.shared_logs.proofs.NumberingLemmas.{hint_used, number_cases, rup_renumbered}
 
 -- ---- lines of a log among lines
 pub lines_append : (name : List ℕ) (xs ys : List NamedLine) → lines_of name (xs ++ ys) ≡ lines_of name xs ++ lines_of name ys
@@ -67,15 +69,15 @@ gave_nothing F before L line name k D same h =
 -- Numbers go up to the last one; and a clause that a log was given is live under its number in the one log, if a line left uses that.
 record IsWeaving (F : Cnf) (before lines : List NamedLine) (f : Numbering) (M : ClauseMap) (top : ℕ) : Type 0 where
   bound : (name : List ℕ) (n : ℕ) → f name n ≤ top
-  known : (name : List ℕ) (n : ℕ) (C : Clause) → live_in (given F (lines_of name before)) n C → AreUsing f lines (f name n) → live_in M (f name n) C
+  known : (name : List ℕ) (n : ℕ) (C : Clause) → live_in (given F (lines_of name before)) n C → AreUsing f top lines (f name n) → live_in M (f name n) C
 
--- a line under whose number a clause is now given stands for clause g
+-- after a line that gives clause C under number n, which has the number g in the one log
 gives : (F : Cnf) (before lines : List NamedLine) (f : Numbering) (M N : ClauseMap) (top up : ℕ) (L : List ℕ) (line : SharedStep) (n g : ℕ) (C : Clause)
     → IsWeaving F before ((L, line) ∷ lines) f M top → ((G : ClauseMap) → given_after G line ≡ insert G n C)
     → top ≤ up → g ≤ up → live_in N g C → ((id : ℕ) (D : Clause) → id ≤ top → live_in M id D → live_in N id D)
-    → ((id : ℕ) → id ≤ top → g ≡ id → AreUsing f ((L, line) ∷ lines) id)
+    → ((id : ℕ) → AreUsing (with_number f L n g) up lines id → AreUsing f top ((L, line) ∷ lines) id)
     → IsWeaving F (before ++ (L, line) ∷ []) lines (with_number f L n g) N up
-gives F before lines f M N top up L line n g C w adds higher low here keeps used = record {
+gives F before lines f M N top up L line n g C w adds higher low here keeps later = record {
   bound = λ name k. elim (number_cases f L n g name k) [
     | inl (a, b, is) ↦ subst (λ id. id ≤ up) (sym is) low
     | inr (a, is) ↦ let b = w.bound name k in subst (λ id. id ≤ up) (sym is) (omega arith)
@@ -87,32 +89,32 @@ gives F before lines f M N top up L line n g C w adds higher low here keeps used
     ]
     | inr (other, old) ↦ elim (number_cases f L n g name k) [
       | inl (a, b, is) ↦ absurd (other a b)
-      | inr (a, is) ↦ subst (λ id. live_in N id D) (sym is) (keeps (f name k) D (w.bound name k) (w.known name k D old
-          (elim (using_back f L n g lines (f name k) (subst (λ id. AreUsing (with_number f L n g) lines id) is using)) [
-            | inl e ↦ used (f name k) (w.bound name k) e
-            | inr later ↦ using_later f (L, line) lines (f name k) later
-          ])))
+      | inr (a, is) ↦
+          subst (λ id. live_in N id D) (sym is)
+          (keeps (f name k) D (w.bound name k)
+          (w.known name k D old (later (f name k) (subst (λ id. AreUsing (with_number f L n g) up lines id) is using))))
     ]
   ];
 }
 
--- a line that gives nothing
+-- after a line that gives nothing
 passes : (F : Cnf) (before lines : List NamedLine) (f : Numbering) (M : ClauseMap) (top : ℕ) (L : List ℕ) (line : SharedStep)
-    → IsWeaving F before ((L, line) ∷ lines) f M top → ((G : ClauseMap) → given_after G line ≡ G) → IsWeaving F (before ++ (L, line) ∷ []) lines f M top
-passes F before lines f M top L line w same = record {
+    → IsWeaving F before ((L, line) ∷ lines) f M top → ((G : ClauseMap) → given_after G line ≡ G)
+    → ((id : ℕ) → AreUsing f top lines id → AreUsing f top ((L, line) ∷ lines) id) → IsWeaving F (before ++ (L, line) ∷ []) lines f M top
+passes F before lines f M top L line w same later = record {
   bound = w.bound;
-  known = λ name n C live using. w.known name n C (gave_nothing F before L line name n C same live) (using_later f (L, line) lines (f name n) using);
+  known = λ name n C live using. w.known name n C (gave_nothing F before L line name n C same live) (later (f name n) using);
 }
 
 -- a deletion of what no line left uses
 forgets : (F : Cnf) (before lines : List NamedLine) (f : Numbering) (M : ClauseMap) (top : ℕ) (ids : List ℕ)
-    → IsWeaving F before lines f M top → ((g : ℕ) → Contains ids g → ¬ (AreUsing f lines g)) → IsWeaving F before lines f (without M ids) top
+    → IsWeaving F before lines f M top → ((g : ℕ) → Contains ids g → ¬ (AreUsing f top lines g)) → IsWeaving F before lines f (without M ids) top
 forgets F before lines f M top ids w unused = record {
   bound = w.bound;
   known = λ name n C live using. live_without M ids (f name n) C (is_other (f name n) using) (w.known name n C live using);
 }
   where
-    is_other : (g : ℕ) → AreUsing f lines g → list_any (nat_eq g) ids ≡ false
+    is_other : (g : ℕ) → AreUsing f top lines g → list_any (nat_eq g) ids ≡ false
     is_other g using = elim (cases_Bool (list_any (nat_eq g) ids)) [
       | inl e ↦ absurd (unused g (Contains-from_any eqb-true g ids e) using)
       | inr e ↦ e
@@ -218,35 +220,34 @@ module _ (F : Cnf) (cell : Cell) (whole : List NamedLine) (is : IsCell F cell) (
   one_more : (before lines : List NamedLine) (x : NamedLine) → whole ≡ before ++ x ∷ lines → whole ≡ (before ++ x ∷ []) ++ lines
   one_more before lines x e = e ∙ sym (append_assoc before (x ∷ []) lines)
 
+  line_holds : (before lines : List NamedLine) (f : Numbering) (M : ClauseMap) (top : ℕ) (x : NamedLine) → whole ≡ before ++ x ∷ lines → IsWeaving F before (x ∷ lines) f M top
+      → AreLogSteps (length F.clauses) M top (written f top x)
+      × IsWeaving F (before ++ x ∷ []) lines (numbering_after f top x) (after_steps M (written f top x)) (top_of top (written f top x))
+  line_holds before lines f M top (name, Lemma number C hints) e w =
+      let (first, own) = line_parts before lines (name, Lemma number C hints) e in
+      let a = among_log F (lines_of name before) first in
+      let among : (n : ℕ) (D : Clause) → Contains hints n → live_in (state_after F (lines_of name before)).live n D → live_in M (f name n) D =
+      λ n D i live. w.known name n D (a.live n D live) (inl (hint_used (f name) hints n i)) in (
+        ((refl, refl, rup_renumbered (live_in (state_after F (lines_of name before)).live) (live_in M) (f name) C hints among own.1), tt),
+        gives F before lines f M (insert M (top + 1) C) top (top + 1) name (Lemma number C hints) number (top + 1) C w (λ G. refl) (omega arith) (omega arith) (get_here M (top + 1) C)
+            (λ id D low live. inserted_other M (top + 1) id C D (λ (same : id ≡ top + 1). omega arith) live)
+            (λ id using. inr using),
+      )
+  line_holds before lines f M top (name, Import number C other there) e w = (
+    tt,
+    gives F before lines f M M top top name (Import number C other there) number (f other there) C w (λ G. refl) (omega arith) (w.bound other there)
+        (w.known other there C (import_given before lines name number C other there e) (inl refl)) (λ id D low live. live) (λ id using. inr using),
+  )
+  line_holds before lines f M top (name, Deletion numbers) e w = (tt, passes F before lines f M top name (Deletion numbers) w (λ G. refl) (λ id using. inr using))
+  line_holds before lines f M top (name, Clock time) e w = (tt, passes F before lines f M top name (Clock time) w (λ G. refl) (λ id using. inr using))
+
   log_holds : (before lines : List NamedLine) (f : Numbering) (M : ClauseMap) (top : ℕ) (steps : List Step) → whole ≡ before ++ lines
       → IsWeaving F before lines f M top → Weaves (length F.clauses) f M top lines steps → AreLogSteps (length F.clauses) M top steps
   log_holds before [] f M top [] e w ends = tt
-  log_holds before _ f M top _ e w (lemma {name = name} {number = number} {C = C} {hints = hints} {lines = lines} {steps = steps} rest) =
-      let x : NamedLine = (name, Lemma number C hints) in
-      let (first, own) = line_parts before lines x e in
-      let a = among_log F (lines_of name before) first in
-      let N = insert M (top + 1) C in
-      let among : (n : ℕ) (D : Clause) → Contains hints n → live_in (state_after F (lines_of name before)).live n D → live_in M (f name n) D =
-      λ n D i live. w.known name n D (a.live n D live) (using_now f x lines (f name n) (hint_used (f name) hints n i)) in
-      let next = gives F before lines f M N top (top + 1) name (Lemma number C hints) number (top + 1) C w (λ G. refl) (omega arith) (omega arith) (get_here M (top + 1) C)
-      (λ id D low live. inserted_other M (top + 1) id C D (λ (same : id ≡ top + 1). omega arith) live)
-      (λ id low same. absurd (omega arith)) in (
-        (refl, refl, rup_renumbered (live_in (state_after F (lines_of name before)).live) (live_in M) (f name) C hints among own.1),
-        log_holds (before ++ x ∷ []) lines (with_number f name number (top + 1)) N (top + 1) steps (one_more before lines x e) next rest,
-      )
-  log_holds before _ f M top steps e w (import {name = name} {number = number} {C = C} {other = other} {there = there} {lines = lines} rest) =
-      let x : NamedLine = (name, Import number C other there) in
-      let g = f other there in
-      let here = w.known other there C (import_given before lines name number C other there e) (using_now f x lines g refl) in
-      let next = gives F before lines f M M top top name (Import number C other there) number g C w (λ G. refl) (omega arith) (w.bound other there) here (λ id D low live. live)
-      (λ id low same. using_now f x lines id same) in
-      log_holds (before ++ x ∷ []) lines (with_number f name number g) M top steps (one_more before lines x e) next rest
-  log_holds before _ f M top steps e w (deletion {name = name} {numbers = numbers} {lines = lines} rest) =
-      let x : NamedLine = (name, Deletion numbers) in
-      log_holds (before ++ x ∷ []) lines f M top steps (one_more before lines x e) (passes F before lines f M top name (Deletion numbers) w (λ G. refl)) rest
-  log_holds before _ f M top steps e w (clock {name = name} {time = time} {lines = lines} rest) =
-      let x : NamedLine = (name, Clock time) in
-      log_holds (before ++ x ∷ []) lines f M top steps (one_more before lines x e) (passes F before lines f M top name (Clock time) w (λ G. refl)) rest
+  log_holds before _ f M top _ e w (takes {x = x} {lines = lines} {steps = steps} rest) =
+      let (here, next) = line_holds before lines f M top x e w in
+      log_append (length F.clauses) M top (written f top x) steps here
+      (log_holds (before ++ x ∷ []) lines (numbering_after f top x) (after_steps M (written f top x)) (top_of top (written f top x)) steps (one_more before lines x e) next rest)
   log_holds before lines f M top _ e w (deletes {ids = ids} {steps = steps} step unused rest) =
       (step, log_holds before lines f (without M ids) top steps e (forgets F before lines f M top ids w unused) rest)
 

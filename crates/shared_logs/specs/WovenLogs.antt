@@ -1,7 +1,6 @@
 -- One log in the place of the logs of a cell: it has their lemmas in the order of their clocks, under numbers of its own.
-use Rattle.std.specs.Prelude.{◌≡◌, ℕ, ◌+◌, ◌==◌, ◌≤◌, nat_le, ◌&&◌, List, [], ◌∷◌, ◌++◌, length, map, Contains, if◌then◌else◌}
+use Rattle.std.specs.Prelude.{◌≡◌, ◌⊎◌, ℕ, ◌+◌, ◌==◌, ◌≤◌, nat_le, ◌&&◌, List, [], ◌∷◌, ◌++◌, length, map, Contains, if◌then◌else◌}
 use Rattle.std.specs.Str.{bytes_eq}
-use Rattle.std.specs.FinMap.{insert}
 use Rattle.dimacs.specs.logic.Literal.{Literal, Clause, negation}
 use Rattle.dimacs.specs.logic.Cnf.{Cnf}
 use Rattle.dimacs.specs.logic.ClauseMap.{ClauseMap, map_of}
@@ -9,6 +8,7 @@ use Rattle.icnf.specs.Leaves.{Cube}
 use Rattle.lrat_text.specs.Grammar.{LineSpellsWithin}
 use Rattle.lrat_text.specs.Log.{IsLogStep, IsLog, EndsAt, Closes, log_top}
 use Rattle.lrat_text.specs.Proof.{without}
+use Rattle.lrat_text.specs.Runs.{after_steps, top_of}
 use Rattle.lrat_text.specs.declared.step.Step.{Step}
 use Rattle.lrat_text.specs.declared.step.Step.TheVariants.{Add, Delete}
 use Rattle.shared_logs.specs.SharedLogs.{SharedStep, Lemma, Import, Deletion, Clock, SharedLog, Cell, IsCell, clock_of}
@@ -53,36 +53,43 @@ own_numbers m name n = if nat_le n m then n else 0
 abbrev pub with_number : Numbering → List ℕ → ℕ → ℕ → Numbering
 with_number f name n g other k = if bytes_eq name other && n == k then g else f other k
 
--- the line uses clause g of the one log: one of its hints stands for that number, or what it imports does
+-- the numbering after a line, where the last number of the one log is top before it: a lemma has the next number there, and an import is
+-- another name of the lemma that it names
+abbrev pub numbering_after : Numbering → ℕ → NamedLine → Numbering
+numbering_after f top (name, Lemma number C hints) = with_number f name number (top + 1)
+numbering_after f top (name, Import number C other there) = with_number f name number (f other there)
+numbering_after f top (name, Deletion numbers) = f
+numbering_after f top (name, Clock time) = f
+
+-- ---- the one log
+-- what a line writes to the one log, whose last number is top: a lemma, with its hints by their numbers there
+abbrev pub written : Numbering → ℕ → NamedLine → List Step
+written f top (name, Lemma number C hints) = Add (top + 1) C (map (f name) hints) [] ∷ []
+written f top (name, Import number C other there) = []
+written f top (name, Deletion numbers) = []
+written f top (name, Clock time) = []
+
+-- the line uses clause g of the one log: one of its hints has that number there, or the lemma that it imports has it
 abbrev pub Uses : Numbering → NamedLine → ℕ → Type 0
 Uses f (name, Lemma number C hints) g = Contains (map (f name) hints) g
 Uses f (name, Import number C other there) g = f other there ≡ g
 Uses f (name, Deletion numbers) g = ⊥
 Uses f (name, Clock time) g = ⊥
 
--- some of the lines uses clause g of the one log
-abbrev pub AreUsing : Numbering → List NamedLine → ℕ → Type 0
-AreUsing f lines g = (x : NamedLine) × Contains lines x × Uses f x g
+-- one of the lines uses clause g of the one log, by the numbers at that line
+abbrev pub AreUsing : Numbering → ℕ → List NamedLine → ℕ → Type 0
+AreUsing f top [] g = ⊥
+AreUsing f top (x ∷ lines) g = Uses f x g ⊎ AreUsing (numbering_after f top x) (top_of top (written f top x)) lines g
 
--- ---- the one log
--- From this numbering, these live clauses and this last added number on, the lines make these steps of a log over a formula of m clauses: a
--- lemma is added under the next number; an import is another name of the lemma that it names; deletions and clocks write nothing. At any
--- place clauses may be deleted that no line from there on uses.
+-- From this numbering, these live clauses and this last number on, the lines make these steps of a log over a formula of m clauses: what each
+-- line writes in turn. Between two lines, clauses may be deleted that no later line uses.
 pub data Weaves (m : ℕ) : Numbering → ClauseMap → ℕ → List NamedLine → List Step → Type 0 where
   ends : {f : Numbering} {M : ClauseMap} {top : ℕ} → Weaves m f M top [] []
-  lemma : {f : Numbering} {M : ClauseMap} {top : ℕ} {name : List ℕ} {number : ℕ} {C : Clause} {hints : List ℕ} {lines : List NamedLine} {steps : List Step}
-      → Weaves m (with_number f name number (top + 1)) (insert M (top + 1) C) (top + 1) lines steps
-      → Weaves m f M top ((name, Lemma number C hints) ∷ lines) (Add (top + 1) C (map (f name) hints) [] ∷ steps)
-  import : {f : Numbering} {M : ClauseMap} {top : ℕ} {name : List ℕ} {number : ℕ} {C : Clause} {other : List ℕ} {there : ℕ} {lines : List NamedLine} {steps : List Step}
-      → Weaves m (with_number f name number (f other there)) M top lines steps
-      → Weaves m f M top ((name, Import number C other there) ∷ lines) steps
-  deletion : {f : Numbering} {M : ClauseMap} {top : ℕ} {name numbers : List ℕ} {lines : List NamedLine} {steps : List Step}
-      → Weaves m f M top lines steps → Weaves m f M top ((name, Deletion numbers) ∷ lines) steps
-  clock : {f : Numbering} {M : ClauseMap} {top : ℕ} {name : List ℕ} {time : ℕ} {lines : List NamedLine} {steps : List Step}
-      → Weaves m f M top lines steps → Weaves m f M top ((name, Clock time) ∷ lines) steps
-  deletes : {f : Numbering} {M : ClauseMap} {top : ℕ} {lines : List NamedLine} {ids : List ℕ} {steps : List Step}
-      → IsLogStep m M top (Delete ids) → ((g : ℕ) → Contains ids g → ¬ (AreUsing f lines g))
-      → Weaves m f (without M ids) top lines steps → Weaves m f M top lines (Delete ids ∷ steps)
+  takes : {f : Numbering} {M : ClauseMap} {top : ℕ} {x : NamedLine} {lines : List NamedLine} {steps : List Step}
+      → Weaves m (numbering_after f top x) (after_steps M (written f top x)) (top_of top (written f top x)) lines steps
+      → Weaves m f M top (x ∷ lines) (written f top x ++ steps)
+  deletes : {f : Numbering} {M : ClauseMap} {top : ℕ} {lines : List NamedLine} {ids : List ℕ} {steps : List Step} → IsLogStep m M top (Delete ids)
+      → ((g : ℕ) → Contains ids g → ¬ (AreUsing f top lines g)) → Weaves m f (without M ids) top lines steps → Weaves m f M top lines (Delete ids ∷ steps)
 
 -- the steps are what the lines make of the formula
 abbrev pub AreWoven : Cnf → List NamedLine → List Step → Type 0
