@@ -4,6 +4,7 @@ mod GivenLemmas
 mod LeavesLemmas
 mod LineLemmas
 mod NumberingLemmas
+mod OrderLemmas
 mod TruthLemmas
 mod WeavingExample
 mod WovenLemmas

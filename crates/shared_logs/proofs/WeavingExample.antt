@@ -1,5 +1,5 @@
 -- The three logs of the worked example, woven.
-use Rattle.std.proofs.Common.{◌≡◌, ℕ, ◌+◌, ◌<◌, ◌≤◌, inl, inr, List, [], ◌∷◌, ◌++◌, length, take, is_some, Some, refl, sym, ◌∙◌, ap, subst, append_assoc, append-nil, arith, codes, length-append}
+use Rattle.std.proofs.Common.{◌≡◌, ℕ, ◌+◌, ◌<◌, ◌≤◌, inl, inr, List, [], ◌∷◌, ◌++◌, take, is_some, Some, refl, sym, ◌∙◌, ap, subst, append_assoc, append-nil, arith, codes}
 use Rattle.std.specs.Prelude.{IsSome}
 use Rattle.std.specs.List.{Contains}
 use Rattle.std.specs.FinMap.{get, insert}
@@ -17,6 +17,7 @@ use Rattle.shared_logs.specs.SharedLogs.{SharedStep, Lemma, Import, Deletion, Cl
 use Rattle.shared_logs.specs.WovenLogs.{AreAllLines, AreByClock, AreUsing, AreWoven, HasMore, NamedLine, Numbering, ends, takes, deletes, lines_of, own_numbers, with_number}
 use Rattle.shared_logs.proofs.ExampleLemmas.{each_of_three, in_first, in_second, in_third, one_distinct, three_are}
 use Rattle.shared_logs.proofs.GivenLemmas.{get_without}
+use Rattle.shared_logs.proofs.OrderLemmas.{no_more}
 use Rattle.shared_logs.proofs.WovenLemmas.{woven_logs_are_logs}
 
 -- ---- the order
@@ -40,12 +41,6 @@ at_each P done (z ∷ lines) (y ∷ before) after x h e =
 -- no log of the three that has a line left has a lower clock
 abbrev IsLowest : List NamedLine → NamedLine → Type 0
 IsLowest before x = (log : SharedLog) → Contains three log → HasMore log before → clock_of (lines_of x.0 before) ≤ clock_of (lines_of log.name before)
-
-no_more : (steps : List SharedStep) (next : SharedStep) (rest : List SharedStep) → steps ≡ steps ++ next ∷ rest → ⊥
-no_more steps next rest e =
-    let same = ap length e in
-    let sum = length-append steps (next ∷ rest) in
-    omega arith
 
 -- at each of the lines: a log that has no line left has no next one, and else the clocks are compared
 lowest : AtEach IsLowest [] three_lines

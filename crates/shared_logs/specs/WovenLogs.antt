@@ -124,3 +124,13 @@ abbrev pub WholeCellsClose : Type 0
 WholeCellsClose =
     (F : Cnf) (cell : Cell) (lines : List NamedLine) (steps : List Step) (q : Cube) → IsCell F cell → AreByClock cell lines → AreAllLines cell lines
     → AreWoven F lines steps → IsClosedIn cell q → HavePartThatCloses F q steps
+
+-- logs of the cell that have one name have the same lines
+abbrev pub AgreeByName : Cell → Type 0
+AgreeByName cell = (log other : SharedLog) → Contains cell log → Contains cell other → log.name ≡ other.name → log.steps ≡ other.steps
+
+-- a theorem: then all lines of the cell can be taken by the clock, and make some steps
+abbrev pub CellsCanBeWoven : Type 0
+CellsCanBeWoven =
+    (F : Cnf) (cell : Cell) → AgreeByName cell
+    → (lines : List NamedLine) × (steps : List Step) × AreByClock cell lines × AreAllLines cell lines × AreWoven F lines steps

@@ -2,7 +2,7 @@
 
 ghost use Rattle.shared_logs.specs.SharedLogs.{ImportsFollow, SharedLemmasFollow};
 ghost use Rattle.shared_logs.specs.SharedLeaves.{SharedLeavesRefute};
-ghost use Rattle.shared_logs.specs.WovenLogs.{WholeCellsClose, WovenLogsAreLogs, WovenLogsClose};
+ghost use Rattle.shared_logs.specs.WovenLogs.{CellsCanBeWoven, WholeCellsClose, WovenLogsAreLogs, WovenLogsClose};
 
 /// Logs of several searches of one formula: if each import names a lemma that one of these logs wrote at a lower clock than the import
 /// stands at, every lemma of every log follows from the formula, and so does every import.
@@ -24,4 +24,6 @@ pub fn a_woven_log_closes()
     ensures part { WovenLogsClose }
     // if every line of every log is taken, it is enough that some log closes the leaf
     ensures whole { WholeCellsClose }
+    // and there is such an order of all lines, whatever the logs are, if no two have one name
+    ensures some { CellsCanBeWoven }
 {}
