@@ -129,7 +129,7 @@ WholeCellsClose =
 abbrev pub AgreeByName : Cell → Type 0
 AgreeByName cell = (log other : SharedLog) → Contains cell log → Contains cell other → log.name ≡ other.name → log.steps ≡ other.steps
 
--- a theorem: then all lines of the cell can be taken by the clock, and make some steps
+-- a theorem: if they have, all lines of the cell can be taken by the clock, and make some steps
 abbrev pub CellsCanBeWoven : Type 0
 CellsCanBeWoven =
     (F : Cnf) (cell : Cell) → AgreeByName cell
