@@ -30,13 +30,13 @@ are_supported : (cell : Cell) (steps : List SharedStep) → AllLines (IsSupporte
 are_supported cell steps h C name there time (number, has) = line_holds (IsSupportedLine cell) steps (Import number C name there) time h has
 
 -- ---- the cell of three
-in_first : Contains three first
+pub in_first : Contains three first
 in_first = Contains-head first (second ∷ third ∷ [])
 
-in_second : Contains three second
+pub in_second : Contains three second
 in_second = Contains-cons first second (second ∷ third ∷ []) (Contains-head second (third ∷ []))
 
-in_third : Contains three third
+pub in_third : Contains three third
 in_third = Contains-cons first third (second ∷ third ∷ []) (Contains-cons second third (third ∷ []) (Contains-head third []))
 
 first_writes : Writes first.steps 5 one 0
@@ -99,7 +99,7 @@ empty_rup = record {
   };
 }
 
-one_distinct : (n : ℕ) → IsDistinct nat_eq (n ∷ [])
+pub one_distinct : (n : ℕ) → IsDistinct nat_eq (n ∷ [])
 unfolding IsDistinct
 one_distinct n = (tt, tt)
 
@@ -120,7 +120,7 @@ third_is : IsSharedLog all_four third.steps
 third_is = (omega arith, (refl, ((refl, empty_rup), tt)))
 
 -- what holds of each of the three holds of a log of the cell
-each_of_three : (P : SharedLog → Type 0) → P first → P second → P third → (log : SharedLog) → Contains three log → P log
+pub each_of_three : (P : SharedLog → Type 0) → P first → P second → P third → (log : SharedLog) → Contains three log → P log
 each_of_three P a b c log i = elim (Contains-cons_cases first log (second ∷ third ∷ []) i) [
   | inl e ↦ subst P e a
   | inr i ↦ elim (Contains-cons_cases second log (third ∷ []) i) [

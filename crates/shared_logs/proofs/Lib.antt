@@ -1,4 +1,10 @@
+mod ClosingLemmas
 mod ExampleLemmas
+mod GivenLemmas
 mod LeavesLemmas
 mod LineLemmas
+mod NumberingLemmas
+mod OrderLemmas
 mod TruthLemmas
+mod WeavingExample
+mod WovenLemmas

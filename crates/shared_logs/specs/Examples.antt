@@ -3,7 +3,10 @@ use Rattle.std.specs.Prelude.{ℕ, List, [], ◌∷◌, codes}
 use Rattle.dimacs.specs.logic.Cnf.{Cnf}
 use Rattle.dimacs.specs.logic.Examples.{one_or_two, one_or_not_two}
 use Rattle.dimacs.specs.logic.Literal.{Clause, Pos, Neg}
+use Rattle.lrat_text.specs.declared.step.Step.{Step}
+use Rattle.lrat_text.specs.declared.step.Step.TheVariants.{Add, Delete}
 use Rattle.shared_logs.specs.SharedLogs.{SharedStep, Lemma, Import, Deletion, Clock, SharedLog, Cell}
+use Rattle.shared_logs.specs.WovenLogs.{NamedLine}
 
 -- the formula p cnf 2 4, 1 2 0, 1 -2 0, -1 2 0, -1 -2 0
 abbrev pub all_four : Cnf
@@ -32,6 +35,32 @@ third = record { name = codes "c"; steps = Clock 2 ∷ Import 5 two (codes "b") 
 -- the three logs
 abbrev pub three : Cell
 three = first ∷ second ∷ third ∷ []
+
+-- their lines by the clock
+abbrev pub three_lines : List NamedLine
+three_lines =
+    (codes "a", Lemma 5 one (1 ∷ 2 ∷ []))
+    ∷ (codes "a", Clock 3)
+    ∷ (codes "b", Clock 1)
+    ∷ (codes "c", Clock 2)
+    ∷ (codes "b", Import 5 one (codes "a") 5)
+    ∷ (codes "b", Lemma 6 two (5 ∷ 3 ∷ []))
+    ∷ (codes "c", Import 5 two (codes "b") 6)
+    ∷ (codes "c", Lemma 6 [] (5 ∷ 2 ∷ 4 ∷ []))
+    ∷ (codes "a", Deletion (5 ∷ []))
+    ∷ []
+
+-- the one log that these lines make: the clause 1 0 is deleted as soon as the second log has used it
+abbrev pub one_log : List Step
+one_log = Add 5 one (1 ∷ 2 ∷ []) [] ∷ Add 6 two (5 ∷ 3 ∷ []) [] ∷ Delete (5 ∷ []) ∷ Add 7 [] (6 ∷ 2 ∷ 4 ∷ []) [] ∷ []
+
+-- those steps, where the clause is deleted before that
+abbrev pub deleted_early : List Step
+deleted_early = Add 5 one (1 ∷ 2 ∷ []) [] ∷ Delete (5 ∷ []) ∷ Add 6 two (5 ∷ 3 ∷ []) [] ∷ Add 7 [] (6 ∷ 2 ∷ 4 ∷ []) [] ∷ []
+
+-- lines of which the second imports a lemma that was not yet written
+abbrev pub imported_early : List NamedLine
+imported_early = (codes "c", Clock 2) ∷ (codes "c", Import 5 two (codes "b") 6) ∷ []
 
 -- the lines of a log over a formula of two clauses that imports, at clock 1, the clause 2 0 from the log of this name, and has it as its own
 -- lemma for that reason alone

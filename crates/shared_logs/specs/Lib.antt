@@ -1,3 +1,4 @@
 pub mod Examples
 pub mod SharedLeaves
 pub mod SharedLogs
+pub mod WovenLogs

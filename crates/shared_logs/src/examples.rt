@@ -3,8 +3,10 @@
 ghost use Rattle.std.specs.Prelude.{ℕ, List, [], Contains, codes};
 ghost use Rattle.dimacs.specs.logic.Examples.{small};
 ghost use Rattle.lrat_check.specs.Soundness.{IsUnsatisfiable};
+ghost use Rattle.lrat_text.specs.Log.{EndsAt, IsLog};
 ghost use Rattle.shared_logs.specs.SharedLogs.{AreImportsSupported, Follows, IsCell, IsSharedLog, IsSupported, SharedLog, Writes};
-ghost use Rattle.shared_logs.specs.Examples.{all_four, circle, circle_back, going_back, one, repeating, third, three, two};
+ghost use Rattle.shared_logs.specs.WovenLogs.{AreAllLines, AreByClock, AreWoven};
+ghost use Rattle.shared_logs.specs.Examples.{all_four, circle, circle_back, deleted_early, going_back, imported_early, one, one_log, repeating, third, three, three_lines, two};
 
 /// Examples of a cell: a log imports a lemma of another one at a later clock, and a third one imports what rests on that. So the formula has
 /// no satisfying assignment.
@@ -25,4 +27,16 @@ pub fn worked_circle()
     ensures no_cell { ¬ (IsCell small circle) }
     ensures all_supported { (log : SharedLog) → Contains circle_back log → AreImportsSupported circle_back log.steps }
     ensures goes_back { ¬ (IsSharedLog small going_back) }
+{}
+
+/// Examples of what is woven: by the clock, the lines of the three logs are one log that refutes the formula. The clause that the first one
+/// keeps until later is deleted there once the second one has used it, and no sooner. An import does not come before its lemma.
+pub fn worked_weaving()
+    ensures order { AreByClock three three_lines }
+    ensures all { AreAllLines three three_lines }
+    ensures woven { AreWoven all_four three_lines one_log }
+    ensures log { IsLog all_four one_log }
+    ensures refutes { EndsAt [] one_log }
+    ensures not_sooner { ¬ (AreWoven all_four three_lines deleted_early) }
+    ensures no_order { ¬ (AreByClock three imported_early) }
 {}
