@@ -1,5 +1,5 @@
 -- What a search over the kept clauses says of the formula.
-use Rattle.std.proofs.Common.{◌≡◌, ℕ, zero, suc, ◌+◌, ◌-◌, ◌^◌, ◌<◌, ◌≤◌, max, min, Bool, Option, None, List, [], ◌∷◌, ◌++◌, length, map, slice_index_or, sym, ◌∙◌, ap, refl, subst, arith, append_assoc}
+use Rattle.std.proofs.Common.{◌≡◌, ℕ, zero, suc, ◌+◌, ◌-◌, ◌^◌, ◌<◌, ◌≤◌, Bool, Option, None, List, [], ◌∷◌, ◌++◌, length, map, slice_index_or, sym, ◌∙◌, ap, refl, subst, arith, append_assoc}
 use Rattle.std.specs.List.{All, AllPairs}
 use Rattle.std.proofs.lemmas.List.{append-nil, length-map, map-append}
 use Rattle.std.proofs.lemmas.List.Elements.{All-cons, All-head, All-map, All-nil, All-tail}
@@ -9,7 +9,7 @@ use Rattle.dimacs.specs.logic.ClauseMap.{ClauseMap, live_in, map_of}
 use Rattle.dimacs.specs.logic.Literal.{Clause}
 use Rattle.lrat_text.specs.Grammar.{LineSpellsWithin, IsStepWithin, IsClauseNumber}
 use Rattle.lrat_text.specs.Log.{after_step, top_after, AreLogSteps, IsLog, additions, log_top, Closes}
-use Rattle.lrat_text.specs.Runs.{after_steps, top_of, text_of}
+use Rattle.lrat_text.specs.Runs.{after_steps, text_of}
 use Rattle.lrat_text.specs.WrittenLine.{line_of, line_text}
 use Rattle.lrat_text.specs.declared.step.Step.{Step}
 use Rattle.lrat_text.specs.declared.step.Step.TheVariants.{Add}
@@ -18,13 +18,13 @@ use Rattle.lrat_text.proofs.LineLemmas.{spells_more, written_one_line_within, wr
 use Rattle.lrat_text.proofs.LogLemmas.{closed_accepts}
 use Rattle.lrat_text.proofs.RunLemmas.{spells_append_within, text_append}
 use Rattle.proof_join.specs.RenumberedSteps.{renumbered}
-use Rattle.cube_solve.specs.Counts.{AreLive, IsCounted, IsCountedToEnd}
+use Rattle.cube_solve.specs.Counts.{IsCounted, IsCountedToEnd}
 use Rattle.cube_solve.specs.Outcome.{IsBrief, allowed}
 use Rattle.cube_solve.specs.declared.observer.Counts.{Counts}
 use Rattle.elimination.specs.Kept.{AddsResolvents, IsKept, IsLeftOf}
 use Rattle.elimination.specs.declared.kept.Kept.{Kept}
 use Rattle.renumbered_logs.specs.Renumbered.{behind_all, steps_behind, Avoids, GoesOn}
-use Rattle.formula_search.specs.Decisions.{Proves, most_of}
+use Rattle.formula_search.specs.Decisions.{Proves}
 use Rattle.formula_search.specs.inner.Wholes.{IsWhole}
 use Rattle.formula_search.specs.declared.kept_search.Whole.{Whole}
 use Rattle.renumbered_logs.proofs.WholeLemmas.{same_steps, whole_closes, whole_count, whole_fresh, whole_live, whole_log, whole_rises, whole_spelled}

@@ -1,4 +1,4 @@
-//! One search over a whole formula, and what is reported of it.
+//! Searches over a whole formula, or over what elimination keeps of it, and what is reported of them.
 //!
 //! What a layer above may rest on: a report of status 10 has an assignment that satisfies the formula, one of status 20 a proof that is
 //! accepted and that closes the tree of one leaf, and one of status 0 tells a limit that the search has met.

@@ -1,4 +1,4 @@
-use Rattle.std.proofs.Common.{◌≡◌, [], length, Some, None, nat_eq, ◌≤◌, refl, ◌∙◌, subst, arith}
+use Rattle.std.proofs.Common.{[], length, Some, nat_eq, ◌≤◌, refl, ◌∙◌, subst, arith}
 use Rattle.std.specs.List.{IsDistinct}
 use Rattle.std.specs.Prelude.{IfSome}
 use Rattle.cube_solve.specs.Counts.{AreCounts, HasLog}
