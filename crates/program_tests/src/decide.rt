@@ -124,13 +124,27 @@ fn resolvents_come_first_in_the_proof_of_a_longer_search(rt: HostRuntime) {
     let text = pigeons(&rt, rt.alloc());
     let input = text.as_str().as_bytes();
     closes(&rt, rt.alloc(), input);
-    let proof = refutes(&rt, rt.alloc(), input, &decided(&rt, rt.alloc(), input, PLAIN));
+    let proof = refutes(
+        &rt,
+        rt.alloc(),
+        input,
+        &decided(&rt, rt.alloc(), input, PLAIN),
+    );
     // Pigeon 1 is not alone: clause 1 says it sits somewhere, clause 156 that it shares no hole.
-    assert!(&rt; proof.as_slice().starts_with(b"205 2 3 4 5 6 7 -50 0 1 156 0\n"));
+    assert!(&rt;
+        proof
+            .as_slice()
+            .starts_with(b"205 2 3 4 5 6 7 -50 0 1 156 0\n")
+    );
     let most = Asked {
         limit: Some(100_000),
         ..PLAIN
     };
-    let searched = refutes(&rt, rt.alloc(), input, &decided(&rt, rt.alloc(), input, most));
+    let searched = refutes(
+        &rt,
+        rt.alloc(),
+        input,
+        &decided(&rt, rt.alloc(), input, most),
+    );
     assert!(&rt; searched != proof);
 }
