@@ -25,6 +25,7 @@ pub(crate) enum Advice {
 }
 
 /// Whatever is worth doing to the clauses of a reducer, move by move.
+#[derive(Drop)]
 pub(crate) struct Advisor {
     /// The moves that are decided already, the next one last.
     pub(crate) moves: Vec<Move>,
@@ -56,27 +57,6 @@ pub(crate) struct Advisor {
     pub(crate) witness: Witness,
 }
 
-impl Drop for Advisor {
-    fn drop(self) {
-        let Advisor {
-            moves: _,
-            budget: _,
-            marks: _,
-            variables: _,
-            tried: _,
-            share: _,
-            first: _,
-            order: _,
-            touched: _,
-            bound: _,
-            has_eliminated: _,
-            positive: _,
-            negative: _,
-            witness: _,
-        } = self;
-    }
-}
-
 impl Advisor {
     /// An advisor over the variables from 1 to `vars` of a formula of so many clauses, which takes so many steps at most.
     pub(crate) fn new(
@@ -106,22 +86,7 @@ impl Advisor {
 
     /// Hands out the clauses that left with their variables.
     pub(crate) fn into_witness(self) -> Witness {
-        let Advisor {
-            moves: _,
-            budget: _,
-            marks: _,
-            variables: _,
-            tried: _,
-            share: _,
-            first: _,
-            order: _,
-            touched: _,
-            bound: _,
-            has_eliminated: _,
-            positive: _,
-            negative: _,
-            witness,
-        } = self;
+        let Advisor { witness, .. } = self;
         witness
     }
 

@@ -53,7 +53,7 @@ fn is_subset(small: &[Lit], large: &[Lit]) -> bool
 }
 
 /// Answers the number of literals of all clauses.
-fn count_literals(all: &Base) -> u64
+pub(crate) fn count_literals(all: &Base) -> u64
     ensures { result ≡ literal_count all.now.clauses }
 {
     let mut count = 0;

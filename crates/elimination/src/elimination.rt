@@ -98,7 +98,8 @@ impl Advisor {
         true
     }
 
-    /// Counts the resolvents of the marked clause of `size` literals. False if there are too many, or if one or its clauses are too long.
+    /// Counts the resolvents of the marked clause of `size` literals. False if there are too many, if one or its clauses are too long, or if
+    /// one is empty: then both clauses stay, and the search ends with them.
     fn count_with(
         &mut self,
         reducer: &Reducer,
@@ -117,7 +118,8 @@ impl Advisor {
                 continue;
             };
             *count = count.saturating_add(1);
-            if *count > most || size.saturating_add(more) > MOST {
+            let literals = size.saturating_add(more).saturating_sub(1);
+            if *count > most || literals == 0 || literals >= MOST {
                 return false;
             }
         }

@@ -6,6 +6,7 @@ ghost use Rattle.elimination.specs.Kept.{IsLeftOf};
 ghost use Rattle.elimination.specs.inner.Reducing.{ArePicked, IsReductionOf};
 
 use crate::advisor::{Advice, Advisor};
+use crate::clauses::count_literals;
 use crate::reducer::Reducer;
 use crate::witness::Witness;
 use dimacs::{Builder, Formula, Lit};
@@ -30,7 +31,7 @@ pub struct Kept {
 }
 
 /// The most literals of a formula whose variables are eliminated.
-const MOST_LITERALS: usize = 20_000_000;
+const MOST_LITERALS: u64 = 20_000_000;
 
 /// The greatest number of variables of a formula.
 const MOST_VARS_KEPT: u32 = 99_999_999;
@@ -55,14 +56,14 @@ const MOVES: u64 = 1 << 40;
 pub fn eliminate(alloc: Global, formula: &Formula) -> Result<Option<Kept>, AllocError>
     ensures { IfOk result (λ found. IfSome found (IsLeftOf formula.now)) }
 {
-    let literals = count_literals(formula);
+    let literals = count_literals(formula.as_base());
     if literals > MOST_LITERALS || repeats_literal(alloc, formula)? {
         return Ok(None);
     }
     let Some(mut reducer) = Reducer::new(alloc, formula)? else {
         return Ok(None);
     };
-    let budget = LEAST_EFFORT + EFFORT * literals as u64;
+    let budget = LEAST_EFFORT + EFFORT * literals;
     let mut advisor = Advisor::new(alloc, formula.vars(), formula.len(), budget)?;
     for _ in 0..MOVES {
         match advisor.advise(&reducer)? {
@@ -72,15 +73,6 @@ pub fn eliminate(alloc: Global, formula: &Formula) -> Result<Option<Kept>, Alloc
         }
     }
     kept_of(alloc, reducer, advisor.into_witness())
-}
-
-/// The number of literals of all clauses of a formula, or `usize::MAX` if that is less.
-fn count_literals(formula: &Formula) -> usize {
-    let mut count = 0usize;
-    for i in 0..formula.len() {
-        count = count.saturating_add(formula.clause(i).len());
-    }
-    count
 }
 
 /// Whether a clause of a formula repeats a literal.
