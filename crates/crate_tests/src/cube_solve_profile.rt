@@ -142,7 +142,7 @@ fn deletions_of(rt: &impl Abort, alloc: Global, log: &[u8]) -> u32 {
     deletions
 }
 
-fn pigeons_base(alloc: Global) -> Result<Base, Fail> {
+pub(crate) fn pigeons_base(alloc: Global) -> Result<Base, Fail> {
     base_of(alloc, pigeons(alloc)?.as_str().as_bytes())
 }
 

@@ -24,6 +24,8 @@ mod cube_solve_propagators;
 #[cfg(test)]
 mod cube_solve_searches;
 #[cfg(test)]
+mod cube_solve_sessions;
+#[cfg(test)]
 mod cube_split_definitions;
 #[cfg(test)]
 mod decide_heap_order;

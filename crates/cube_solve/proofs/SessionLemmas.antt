@@ -19,7 +19,7 @@ use Rattle.lrat_text.proofs.ClauseMapLemmas.{numbered_between, numbered_at, some
 use Rattle.watches.specs.Law.{NoneFalseOrUnit, SameUpToOrder}
 use Rattle.watches.specs.Trails.{TrailValue, holds}
 use Rattle.cube_solve.specs.Conflicts.{AllHold}
-use Rattle.cube_solve.specs.Session.{AreGiven, IsReady, IsSolution, IsCore, live_in_session, vars_of}
+use Rattle.cube_solve.specs.Session.{AreGiven, FollowsFrom, IsReady, IsSolution, IsCore, live_in_session, vars_of}
 use Rattle.cube_solve.specs.declared.search.Search.{Search}
 use Rattle.cube_solve.specs.declared.session.Session.{Session}
 use Rattle.cube_solve.specs.inner.Reduction.{AreLemmas, DeletesLemmas}
@@ -31,6 +31,7 @@ use Rattle.cube_solve.specs.inner.State.{IsState, IsTotal}
 use Rattle.cube_solve.specs.inner.SearchInvariants.{IsSteady}
 use Rattle.cube_solve.specs.inner.UnitClauses.{AreNoted}
 use Rattle.cube_solve.proofs.ClauseLemmas.{same_back, same_forth, twins_trans}
+use Rattle.cube_solve.proofs.MapLemmas.{twins_itself}
 use Rattle.cube_solve.proofs.ReductionLemmas.{lemmas_same}
 use Rattle.cube_solve.specs.Subsequences.{IsSubsequenceOf}
 use Rattle.cube_solve.proofs.SubsequenceLemmas.{part_filter, part_trans}
@@ -68,20 +69,26 @@ has_same F m k lemmas s h = record {
   follow = λ a sat n D l. let c = same_back m k s n D l in true_twin a c.0 D c.2 (h.follow a sat n c.0 c.1);
 }
 
+-- a clause that follows joins the lemmas
+pub has_lent : (F : List Clause) (old new : Live) (id : ℕ) (C lits : Clause) (before after : List ℕ) → after ≡ before ++ id ∷ [] → AreBelow id old → AreTwins C lits → IsAdded old id lits new → FollowsFrom F C
+    → HasClauses F old before → HasClauses F new after
+has_lent F old new id C lits before after e below twins add follows h = record {
+  there = λ G i.
+      let d = h.there G i in
+      let x = add.stays d.0 d.1 d.2 in
+      let up = (below d.0 d.1 d.2).1 in
+      (d.0, x.0, x.1, twins_trans G d.1 x.0 d.3 x.2, λ j. elim (Contains-push_cases before id d.0 (subst (λ xs. Contains xs d.0) e j)) [ inl k ↦ d.4 k | inr q ↦ absurd (omega arith) ]);
+  follow = λ a sat n D l. elim (add.only n D l) [
+    | inl o ↦ true_twin a o.0 D o.2 (h.follow a sat n o.0 o.1)
+    | inr o ↦ true_twin a lits D o.1 (true_twin a C lits twins (follows a sat))
+  ];
+}
+
 -- a lemma joins
 pub has_learnt : (F : List Clause) (old new : Live) (id : ℕ) (lits : Clause) (hints before after : List ℕ) → after ≡ before ++ id ∷ [] → AreBelow id old → IsAdded old id lits new → Rup old lits hints
     → HasClauses F old before → HasClauses F new after
-has_learnt F old new id lits hints before after e below add rup h = record {
-  there = λ C i.
-      let d = h.there C i in
-      let x = add.stays d.0 d.1 d.2 in
-      let up = (below d.0 d.1 d.2).1 in
-      (d.0, x.0, x.1, twins_trans C d.1 x.0 d.3 x.2, λ j. elim (Contains-push_cases before id d.0 (subst (λ xs. Contains xs d.0) e j)) [ inl k ↦ d.4 k | inr q ↦ absurd (omega arith) ]);
-  follow = λ a sat n D l. elim (add.only n D l) [
-    | inl o ↦ true_twin a o.0 D o.2 (h.follow a sat n o.0 o.1)
-    | inr o ↦ true_twin a lits D o.1 (rup_true a old (h.follow a sat) lits hints rup)
-  ];
-}
+has_learnt F old new id lits hints before after e below add rup h =
+    has_lent F old new id lits lits before after e below (twins_itself lits) add (λ a sat. rup_true a old (h.follow a sat) lits hints rup) h
 
 -- lemmas go
 pub has_dropped : (F : List Clause) (top : ℕ) (old new : Live) (before after text more : List ℕ) → DeletesLemmas top before after old new text more → HasClauses F old before → HasClauses F new after

@@ -35,7 +35,7 @@ use Rattle.cube_solve.specs.inner.Queries.{ArePicked, RefutesQuery}
 use Rattle.cube_solve.proofs.ClauseLemmas.{added_twin, linked_more, linked_same, linked_turned}
 use Rattle.cube_solve.proofs.DeletionLemmas.{linked_less, map_less, rising_distinct, some_is}
 use Rattle.cube_solve.proofs.LogLemmas.{rup_same}
-use Rattle.cube_solve.proofs.MapLemmas.{map_added}
+use Rattle.cube_solve.proofs.MapLemmas.{map_added, twins_itself}
 use Rattle.cube_solve.proofs.SessionLemmas.{from_map, in_map}
 
 right_append : (most : ℕ) (given : List ℕ) (M : ClauseMap) (top : ℕ) (xs ys : List Step) → AreRightSteps most given M top xs
@@ -78,6 +78,20 @@ module _ {P : Type 0} where
   pub tells_on : (s u w : Session P) → LogGrows s u → LogGrows u w → LogGrows s w
   tells_on s u w f g = λ given M h. let x = f given M h in tells_trans given M s u w x (g given (after_steps M x.steps) x.known)
 
+  -- a clause joins the lemmas, whatever it follows from
+  pub known_lent : (s u : Session P) (C lits : Clause) → last_of u ≡ last_of s + 1 → AreBelow (last_of s + 1) (live_in_session s)
+      → u.search.lemmas.items ≡ s.search.lemmas.items ++ last_of u ∷ [] → AreTwins C lits → IsAdded (live_in_session s) (last_of u) lits (live_in_session u)
+      → (given : List ℕ) (M : ClauseMap) → IsKnown given M s → IsKnown given (insert M (last_of u) C) u
+  known_lent s u C lits next below lemmas twins add given M h =
+      let id = last_of u in
+      let old = live_in_session s in
+      let fresh : get M id ≡ None = not_in M id (λ D i. let d = (h.linked).forth id D i in let b = below id d.0 d.1 in let up = b.1 in omega arith) in
+      record {
+        linked = linked_more (live_in M) (live_in (insert M id C)) old (live_in_session u) id C h.linked (map_added M id C fresh) (added_twin old (live_in_session u) id C lits twins add);
+        before = λ n i. let b = h.before n i in omega arith;
+        apart = λ n i j. elim (Contains-push_cases s.search.lemmas.items id n (subst (λ xs. Contains xs n) lemmas j)) [ inl k ↦ h.apart n i k | inr e ↦ (let b = h.before n i in omega arith) ];
+      }
+
   -- a lemma joins
   pub tells_learnt : (s u : Session P) → vars_of u ≡ vars_of s → last_of u ≡ last_of s + 1 → AreBelow (last_of s + 1) (live_in_session s) → u.search.lemmas.items ≡ s.search.lemmas.items ++ last_of u ∷ []
       → Learns (vars_of s) (last_of u) (live_in_session s) (live_in_session u) (log_of s) (log_of u) → LogGrows s u
@@ -85,18 +99,13 @@ module _ {P : Type 0} where
       let id = last_of u in
       let old = live_in_session s in
       let w = g.written in
-      let fresh : get M id ≡ None = not_in M id (λ C i. let d = (h.linked).forth id C i in let b = below id d.0 d.1 in let up = b.1 in omega arith) in
       record {
         steps = Add id g.lits w.hints [] ∷ [];
         vars = same;
         right = (w.limits, (next, refl, rup_same old (live_in M) ((linked_turned (live_in M) old h.linked).forth) g.lits w.hints w.rup), tt);
         text = w.text ∙ ap (λ (t : List ℕ). log_of s ++ t) (sym (append-nil (line_of id (Add id g.lits w.hints []))));
         last = refl;
-        known = record {
-          linked = linked_more (live_in M) (live_in (insert M id g.lits)) old (live_in_session u) id g.lits h.linked (map_added M id g.lits fresh) g.added;
-          before = λ n i. let b = h.before n i in omega arith;
-          apart = λ n i j. elim (Contains-push_cases s.search.lemmas.items id n (subst (λ xs. Contains xs n) lemmas j)) [ inl k ↦ h.apart n i k | inr e ↦ (let b = h.before n i in omega arith) ];
-        };
+        known = known_lent s u g.lits g.lits next below lemmas (twins_itself g.lits) g.added given M h;
       }
 
   -- lemmas go

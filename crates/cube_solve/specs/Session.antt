@@ -48,6 +48,10 @@ IfUnknown (answer.Satisfied values) P = Unit {0}
 IfUnknown (answer.Failed failure) P = Unit {0}
 IfUnknown answer.Unknown P = P
 
+-- the clause follows from the clauses F: every assignment that satisfies them makes it true
+abbrev pub FollowsFrom : List Clause → Clause → Type 0
+FollowsFrom F C = (a : ℕ → Bool) → All (IsTrueIn a) F → IsTrueIn a C
+
 -- ---- the value of a session
 module _ {P : Type 0} where
   -- the number of a session's variables
@@ -79,3 +83,7 @@ module _ {P : Type 0} where
   -- a session's property: F are the clauses that were given
   abbrev pub AreGiven : List Clause → Session P → Type 0
   AreGiven F s = HasClauses F (live_in_session s) s.search.lemmas.items
+
+  -- a session's property: the clause of this number is a lemma, its own or one that it was lent, so that it may be deleted
+  abbrev pub IsLemma : Session P → ℕ → Type 0
+  IsLemma s number = Contains s.search.lemmas.items number

@@ -6,6 +6,7 @@ ghost use Rattle.cube_solve.specs.inner.DecisionOrder.{IsOrder, IsOrderBut, AreA
 ghost use Rattle.cube_solve.specs.inner.State.{IsTotal};
 ghost use Rattle.cube_solve.specs.inner.Steps.{IsUnassigned};
 
+use crate::random::Random;
 use crate::saved_phases::{Rephase, SavedPhases};
 use crate::vmtf_queue::VmtfQueue;
 use decide_heap::DecideHeap;
@@ -131,6 +132,18 @@ fn bump_all(heap: &mut DecideHeap, vars: &[Var], amount: u64)
 {
     for &var in vars {
         heap.add(var, amount);
+    }
+}
+
+/// Adds a random number below the first bump to the score of each variable from 1 to `vars`, so that what was not bumped yet is in a
+/// random order.
+fn draw_scores(heap: &mut DecideHeap, vars: u32, random: &mut Random)
+    requires vars { heap.old.vars ≡ vars }
+    requires limit { vars < 2 ^ 31 }
+    ensures { HasSameMembers heap.old heap.new }
+{
+    for number in 1..vars + 1 {
+        heap.add(Var::new(number), random.next() % FIRST_BUMP);
     }
 }
 
@@ -280,5 +293,17 @@ impl Order {
         ensures { self.new ≡ self.old }
     {
         self.values.rephase(kind);
+    }
+    /// Puts the variables, from 1 to `vars`, into an order by a seed, and sets their values by it. If memory is refused, nothing has changed.
+    pub(crate) fn diversify(&mut self, vars: u32, seed: u64) -> Result<(), AllocError>
+        requires vars { self.old.vars ≡ vars }
+        requires limit { vars < 2 ^ 31 }
+        ensures { HasSameMembers self.old self.new }
+    {
+        let mut random = Random::of(seed);
+        self.queue.shuffle(&mut random)?;
+        self.values.draw(&mut random);
+        draw_scores(&mut self.heap, vars, &mut random);
+        Ok(())
     }
 }

@@ -146,6 +146,17 @@ impl LemmaStats {
         self.add()
     }
 
+    /// Appends the statistics of the next clause, a lemma of another search, as if it were used now. Its LBD here is not known before it is
+    /// used, so its number of literals, `len`, stands for it.
+    pub(crate) fn lend(&mut self, len: usize) -> Result<(), AllocError> {
+        if len < 2 {
+            return self.learn_unit(); // the empty clause is never deleted either
+        }
+        let levels = len.min(u8::MAX as usize) as u8;
+        self.stats.push(Stats::used(levels, self.reductions))?;
+        Ok(())
+    }
+
     /// The statistics of the clause of this number; those of a lemma of LBD 0 if the clause is no lemma.
     fn stats_of(&self, number: u64) -> Stats {
         if let Some(place) = number.checked_sub(self.first) {

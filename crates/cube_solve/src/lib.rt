@@ -27,6 +27,7 @@ mod moving_average;
 mod observer;
 mod outcome;
 mod query;
+mod random;
 mod reduce;
 mod root_units;
 mod saved_phases;

@@ -3,6 +3,7 @@
 //!
 //! No promise rests on these values.
 
+use crate::random::Random;
 use dimacs::{Lit, Var};
 use std::alloc::{AllocError, Global};
 use watches::{Trail, Truth};
@@ -166,6 +167,12 @@ impl SavedPhases {
         self.target.clear();
         if matches!(kind, Rephase::Best) {
             self.best.len = 0;
+        }
+    }
+    /// Sets each last value at random.
+    pub(crate) fn draw(&mut self, random: &mut Random) {
+        for last in self.last.iter_mut() {
+            *last = random.next() % 2 == 1;
         }
     }
 }

@@ -324,6 +324,28 @@ impl<'a, P: Propagator> Search<'a, P> {
         Ok(())
     }
 
+    /// Backtracks to level 0, and adds a clause under the number `id`, also to `lemmas`: one that another search has learnt.
+    pub(crate) fn add_lent(&mut self, id: u64, lits: &[Lit]) -> Result<(), AllocError>
+        requires steady { IsSteady P.is_ready P.attached self.old.state }
+        requires distinct { IsDistinct same lits.now }
+        requires within { All (IsWithin self.old.state.trail.vars) lits.now }
+        requires id { 0 < id }
+        requires numbers { AreBelow id (live_of self.old.state.arena) }
+        requires noted { AreNoted (live_of self.old.state.arena) self.old.units.numbers.items }
+        ensures steady { OnOk result (IsSteady P.is_ready P.attached self.new.state) }
+        ensures noted { OnOk result (AreNoted (live_of self.new.state.arena) self.new.units.numbers.items) }
+        ensures added { OnOk result (IsAdded (live_of self.old.state.arena) id lits.now (live_of self.new.state.arena)) }
+        ensures lemmas { OnOk result (self.new.lemmas.items ≡ self.old.lemmas.items ++ id ∷ []) }
+        ensures vars { OnOk result (self.new.state.trail.vars ≡ self.old.state.trail.vars) }
+        ensures log { self.new.log ≡ self.old.log }
+    {
+        self.state.add_given(id, lits)?;
+        self.units.note(lits, id);
+        self.lemmas.push(id)?;
+        self.uses.lend(lits.len())?;
+        Ok(())
+    }
+
     /// Moves the lemmas' numbers and statistics, the log, and the saved values of another search
     /// into this one, when a session moves to more variables. This search has the other's clauses
     /// already.

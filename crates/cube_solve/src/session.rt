@@ -5,7 +5,7 @@ ghost use Rattle.std.specs.FinMap.{insert};
 ghost use Rattle.dimacs.specs.logic.ClauseMap.{ClauseMap, map_of};
 ghost use Rattle.dimacs.specs.logic.Literal.{Clause, IsWithin};
 ghost use Rattle.lrat_text.specs.Grammar.{IsClauseNumber};
-ghost use Rattle.cube_solve.specs.Session.{IsReady, AreGiven, vars_of, last_of, log_of};
+ghost use Rattle.cube_solve.specs.Session.{IsReady, AreGiven, FollowsFrom, IsLemma, vars_of, last_of, log_of};
 ghost use Rattle.cube_solve.specs.SessionLog.{IsKnown};
 
 use crate::marks::Marks;
@@ -106,6 +106,48 @@ impl<'a, P: Propagator> Session<'a, P> {
         self.search.add_given(id, &kept)?;
         self.top = id;
         Ok(())
+    }
+
+    /// Adds a clause over the session's variables that another search of the same clauses has learnt. It may be deleted as a lemma may. As in
+    /// `give` it may repeat literals, and may have a literal and its negation; and there is an error if memory is refused, or after 2^47
+    /// clauses and lemmas, after which nothing is known of the session.
+    pub fn lend(&mut self, clause: &[Lit]) -> Result<(), AllocError>
+        requires ready { IsReady P.is_ready P.attached self.old }
+        requires within { All (IsWithin (vars_of self.old)) clause.now }
+        ensures ready { OnOk result (IsReady P.is_ready P.attached self.new) }
+        ensures given { OnOk result ((F : List Clause) → AreGiven F self.old → FollowsFrom F clause.now → AreGiven F self.new) }
+        ensures vars { OnOk result (vars_of self.new ≡ vars_of self.old) }
+        ensures last { OnOk result (last_of self.new ≡ last_of self.old + 1) }
+        ensures number { OnOk result (IsClauseNumber (last_of self.new)) }
+        ensures log { log_of self.new ≡ log_of self.old }
+        ensures known { OnOk result ((given : List ℕ) (M : ClauseMap) → IsKnown given M self.old → IsKnown given (insert M (last_of self.new) clause.now) self.new) }
+        ensures lemma { OnOk result (IsLemma self.new (last_of self.new)) }
+    {
+        let id = self.next_number()?;
+        let vars = self.search.state.trail.vars();
+        let mut kept = Vec::new(self.search.alloc);
+        self.marks.mark(vars, clause, &mut kept)?;
+        self.search.add_lent(id, &kept)?;
+        self.top = id;
+        Ok(())
+    }
+
+    /// Draws the first order of decisions and the values that they try first by a seed, so that searches of one formula go different ways.
+    /// Seed 0 changes nothing; sessions with the same seed, clauses and calls do the same. If memory is refused, nothing has changed.
+    pub fn diversify(&mut self, seed: u64) -> Result<(), AllocError>
+        requires { IsReady P.is_ready P.attached self.old }
+        ensures ready { IsReady P.is_ready P.attached self.new }
+        ensures given { (F : List Clause) → AreGiven F self.old → AreGiven F self.new }
+        ensures vars { vars_of self.new ≡ vars_of self.old }
+        ensures last { last_of self.new ≡ last_of self.old }
+        ensures log { log_of self.new ≡ log_of self.old }
+        ensures known { (given : List ℕ) (M : ClauseMap) → IsKnown given M self.old → IsKnown given M self.new }
+    {
+        if seed == 0 {
+            return Ok(());
+        }
+        let vars = self.search.state.trail.vars();
+        self.search.state.order.diversify(vars, seed)
     }
 
     /// The greatest number of a clause so far, given or learnt.

@@ -6,6 +6,7 @@ ghost use Rattle.std.specs.Prelude.{IfSome};
 ghost use Rattle.dimacs.specs.logic.Literal.{Neg};
 ghost use Rattle.cube_solve.specs.inner.Steps.{IsUnassigned};
 
+use crate::random::Random;
 use dimacs::{Lit, Var};
 use std::alloc::{AllocError, Global};
 use watches::{Trail, Truth};
@@ -128,12 +129,29 @@ impl VmtfQueue {
             let key = self.key_of(var.number());
             self.bumped.push(key)?;
         }
+        self.move_bumped();
+        Ok(())
+    }
+
+    /// Makes the variables of the keys in the buffer the latest, in the order of the keys.
+    fn move_bumped(&mut self) {
         self.bumped.sort_unstable();
         for i in 0..self.bumped.len() {
             if let Some(&key) = self.bumped.get(i) {
                 self.move_to_end((key % (1 << NUMBER_BITS)) as u32);
             }
         }
+    }
+
+    /// Puts all variables into a random order. If memory is refused, nothing has changed.
+    pub(crate) fn shuffle(&mut self, random: &mut Random) -> Result<(), AllocError> {
+        self.bumped.clear();
+        for number in 1..self.links.len() {
+            let key = random.next() << NUMBER_BITS | number as u64 % (1 << NUMBER_BITS);
+            self.bumped.push(key)?;
+        }
+        self.move_bumped();
+        self.rewind();
         Ok(())
     }
 
