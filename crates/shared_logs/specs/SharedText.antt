@@ -61,10 +61,10 @@ SpellsSharedStep most names line (Clock time) = SpellsClock line time
 -- one line more, which gives a name to a number that stands for none yet, or spells a step.
 pub data SpellsSharedWithin (most : ℕ) : List ℕ → Names → List SharedStep → Type 0 where
   begins : SpellsSharedWithin most [] [] []
-  names : {text : List ℕ} {given : Names} {steps : List SharedStep} {line : List ℕ} {number : ℕ} {name : List ℕ}
+  names : (text line : List ℕ) (number : ℕ) (name : List ℕ) {given : Names} {steps : List SharedStep}
       → SpellsSharedWithin most text given steps → IsOpen line → SpellsName line number name → IsUnused given number
       → SpellsSharedWithin most (text ++ line ++ lf ∷ []) ((number, name) ∷ given) steps
-  spells : {text : List ℕ} {given : Names} {steps : List SharedStep} {line : List ℕ} {step : SharedStep}
+  spells : (text line : List ℕ) (step : SharedStep) {given : Names} {steps : List SharedStep}
       → SpellsSharedWithin most text given steps → IsOpen line → SpellsSharedStep most given line step
       → SpellsSharedWithin most (text ++ line ++ lf ∷ []) given (steps ++ step ∷ [])
 
