@@ -1,5 +1,6 @@
 -- The text of a log that takes over lemmas of other logs: lines of LRAT text, and lines of three kinds more.
-use Rattle.std.specs.Prelude.{◌≡◌, ℕ, ◌≤◌, ◌^◌, nat_le, ◌&&◌, ◌||◌, Bool, true, List, [], ◌∷◌, ◌++◌, length, All, Contains, codes, decimal}
+use Rattle.std.specs.Prelude.{◌≡◌, ℕ, ◌≤◌, ◌^◌, true, List, [], ◌∷◌, ◌++◌, length, All, Contains, codes, decimal}
+use Rattle.std.specs.Char.{is_ascii_alphanumeric}
 use Rattle.dimacs.specs.logic.Cnf.{Cnf}
 use Rattle.dimacs.specs.logic.Literal.{Clause}
 use Rattle.lrat_text.specs.Grammar.{IsClauseNumber, SpellsStepWithin, lf, space}
@@ -9,15 +10,11 @@ use Rattle.lrat_text.specs.declared.step.Step.TheVariants.{Add, Delete}
 use Rattle.shared_logs.specs.SharedLogs.{SharedStep, Lemma, Import, Deletion, Clock}
 
 -- ---- names
--- the byte is a digit or an ASCII letter
-abbrev pub is_name_byte : ℕ → Bool
-is_name_byte b = (nat_le 48 b && nat_le b 57) || (nat_le 65 b && nat_le b 90) || (nat_le 97 b && nat_le b 122)
-
--- the bytes are the name of a log: 1 to 64 letters and digits
+-- the bytes are the name of a log: 1 to 64 ASCII letters and digits
 pub record IsName (name : List ℕ) : Type 0 where
   pub some : 1 ≤ length name
   pub short : length name ≤ 64
-  pub plain : All (λ b. is_name_byte b ≡ true) name
+  pub plain : All (λ b. is_ascii_alphanumeric b ≡ true) name
 
 -- the names that the lines of a log gave so far: each with the number that stands for it
 abbrev pub Names : Type 0
