@@ -5,6 +5,7 @@ mod LeavesLemmas
 mod LineLemmas
 mod NumberingLemmas
 mod OrderLemmas
+mod TextExample
 mod TruthLemmas
 mod WeavingExample
 mod WovenLemmas

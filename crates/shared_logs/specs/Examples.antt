@@ -32,6 +32,10 @@ second = record { name = codes "b"; steps = Clock 1 ∷ Import 5 one (codes "a")
 abbrev pub third : SharedLog
 third = record { name = codes "c"; steps = Clock 2 ∷ Import 5 two (codes "b") 6 ∷ Lemma 6 [] (5 ∷ 2 ∷ 4 ∷ []) ∷ [] }
 
+-- the text of the third log, in which the number 1 stands for the name of the second one
+abbrev pub third_text : List ℕ
+third_text = codes "w 1 b 0\ne 2 0\n5 i 2 0 1 6 0\n6 0 5 2 4 0\n"
+
 -- the three logs
 abbrev pub three : Cell
 three = first ∷ second ∷ third ∷ []

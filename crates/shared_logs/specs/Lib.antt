@@ -1,4 +1,5 @@
 pub mod Examples
 pub mod SharedLeaves
 pub mod SharedLogs
+pub mod SharedText
 pub mod WovenLogs

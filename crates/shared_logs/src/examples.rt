@@ -5,8 +5,9 @@ ghost use Rattle.dimacs.specs.logic.Examples.{small};
 ghost use Rattle.lrat_check.specs.Soundness.{IsUnsatisfiable};
 ghost use Rattle.lrat_text.specs.Log.{EndsAt, IsLog};
 ghost use Rattle.shared_logs.specs.SharedLogs.{AreImportsSupported, Follows, IsCell, IsSharedLog, IsSupported, SharedLog, Writes};
+ghost use Rattle.shared_logs.specs.SharedText.{SpellsShared};
 ghost use Rattle.shared_logs.specs.WovenLogs.{AreAllLines, AreByClock, AreWoven};
-ghost use Rattle.shared_logs.specs.Examples.{all_four, circle, circle_back, deleted_early, going_back, imported_early, one, one_log, repeating, third, three, three_lines, two};
+ghost use Rattle.shared_logs.specs.Examples.{all_four, circle, circle_back, deleted_early, going_back, imported_early, one, one_log, repeating, third, third_text, three, three_lines, two};
 
 /// Examples of a cell: a log imports a lemma of another one at a later clock, and a third one imports what rests on that. So the formula has
 /// no satisfying assignment.
@@ -39,4 +40,9 @@ pub fn worked_weaving()
     ensures refutes { EndsAt [] one_log }
     ensures not_sooner { ¬ (AreWoven all_four three_lines deleted_early) }
     ensures no_order { ¬ (AreByClock three imported_early) }
+{}
+
+/// An example of a text: a line that gives a name, one of the clock, an import from the log of that name, and a lemma.
+pub fn worked_text()
+    ensures { SpellsShared all_four third_text third.steps }
 {}

@@ -7,5 +7,5 @@
 mod examples;
 mod laws;
 
-pub use examples::{worked_cell, worked_circle, worked_weaving};
+pub use examples::{worked_cell, worked_circle, worked_text, worked_weaving};
 pub use laws::{a_woven_log_closes, shared_leaves_refute, shared_lemmas_follow};
