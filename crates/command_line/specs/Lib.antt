@@ -1,4 +1,6 @@
 pub mod CommandLine
 pub mod Options
 pub mod Program
+pub mod SolverTable
+pub mod SolverWords
 pub mod inner
