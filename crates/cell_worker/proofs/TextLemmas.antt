@@ -1,29 +1,26 @@
 -- The text of a log, line by line.
-use Rattle.std.proofs.Common.{◌≡◌, ◌≢◌, ℕ, ◌+◌, ◌<◌, ◌≤◌, ◌^◌, ◌⊎◌, inl, inr, List, [], ◌∷◌, ◌++◌, length, map, fold, Some, codes, append_assoc, append-nil, refl, sym, ◌∙◌, ap, subst, arith}
+use Rattle.std.proofs.Common.{◌≡◌, ℕ, ◌<◌, ◌≤◌, ◌^◌, ◌⊎◌, inl, inr, List, [], ◌∷◌, ◌++◌, length, map, fold, append_assoc, append-nil, refl, sym, ◌∙◌, ap, subst, arith}
 use Rattle.std.specs.List.{All, Contains}
-use Rattle.std.specs.FinMap.{insert}
-use Rattle.std.specs.Prelude.{max}
 use Rattle.std.proofs.lemmas.Bool.{cases_lt}
 use Rattle.std.proofs.lemmas.List.Elements.{All-cons, All-contains, All-nil, All-weaker}
 use Rattle.std.proofs.lemmas.List.Sums.{fold-append}
-use Rattle.dimacs.specs.logic.ClauseMap.{ClauseMap, live_in, map_of}
+use Rattle.dimacs.specs.logic.ClauseMap.{ClauseMap, live_in}
 use Rattle.dimacs.specs.logic.Cnf.{Cnf}
 use Rattle.dimacs.specs.logic.Literal.{Clause}
 use Rattle.dimacs.specs.logic.Rat.{Group}
-use Rattle.lrat_text.specs.Grammar.{IsClauseNumber, IsStepWithin, SpellsStepWithin}
+use Rattle.lrat_text.specs.Grammar.{IsStepWithin, SpellsStepWithin}
 use Rattle.lrat_text.specs.Lines.{IsOpen}
 use Rattle.lrat_text.specs.Log.{after_step, log_top, top_after}
 use Rattle.lrat_text.specs.Runs.{after_steps, text_of, top_of}
-use Rattle.lrat_text.specs.WrittenLine.{line_of, line_text}
-use Rattle.lrat_text.specs.Proof.{without}
+use Rattle.lrat_text.specs.WrittenLine.{line_text}
 use Rattle.lrat_text.specs.declared.step.Step.{Step}
 use Rattle.lrat_text.specs.declared.step.Step.TheVariants.{Add, Delete}
 use Rattle.lrat_text.proofs.ClauseMapLemmas.{get_other}
 use Rattle.lrat_text.proofs.LineLemmas.{step_more, written_one_line_within, written_spells_within}
 use Rattle.cube_solve.proofs.DeletionLemmas.{map_less}
 use Rattle.cube_solve.specs.SessionLog.{AreRightSteps}
-use Rattle.shared_logs.specs.SharedLogs.{SharedLogState, SharedStep, Lemma, Import, Deletion, Clock, AreSharedSteps, IsSharedLog, IsSharedStep, after_line, initial_state}
-use Rattle.shared_logs.specs.SharedText.{IsName, IsUnused, Names, SpellsName, SpellsSharedStep, SpellsSharedWithin, begins, names, spells}
+use Rattle.shared_logs.specs.SharedLogs.{SharedLogState, SharedStep, Lemma, Import, Deletion, Clock, AreSharedSteps, IsSharedStep, after_line, initial_state}
+use Rattle.shared_logs.specs.SharedText.{IsUnused, Names, SpellsName, SpellsSharedStep, SpellsSharedWithin, begins, names, spells}
 use Rattle.cell_worker.specs.WorkerLog.{IsOwn, IsSharedText, log_state}
 use Rattle.cell_worker.proofs.SpellingLemmas.{open_of}
 

@@ -1,10 +1,10 @@
 -- What a worker has written after each call.
-use Rattle.std.proofs.Common.{zero, suc, ◌≡◌, ℕ, ◌+◌, ◌<◌, ◌≤◌, ◌^◌, ◌⊎◌, inl, inr, Bool, List, [], ◌∷◌, ◌++◌, length, map, get_or, append_assoc, refl, sym, ◌∙◌, ap, subst, arith}
+use Rattle.std.proofs.Common.{zero, suc, ◌≡◌, ℕ, ◌+◌, ◌<◌, ◌≤◌, ◌^◌, ◌⊎◌, inl, inr, Bool, true, false, List, [], ◌∷◌, ◌++◌, length, map, get_or, append_assoc, append-nil, refl, sym, ◌∙◌, ap, subst, arith}
+use Rattle.std.specs.Bool.{MatchBool}
 use Rattle.std.specs.List.{All, Contains}
-use Rattle.std.specs.Prelude.{max}
 use Rattle.std.proofs.lemmas.Bool.{cases_lt}
-use Rattle.std.proofs.lemmas.List.Elements.{All-append, All-cons, All-contains, All-nil, All-weaker, Contains-get_or}
-use Rattle.dimacs.specs.logic.ClauseMap.{ClauseMap, live_in, map_of}
+use Rattle.std.proofs.lemmas.List.Elements.{All-append, All-cons, All-nil, All-weaker}
+use Rattle.dimacs.specs.logic.ClauseMap.{ClauseMap, live_in}
 use Rattle.dimacs.specs.logic.Cnf.{Cnf, assignment_of}
 use Rattle.dimacs.specs.logic.Literal.{Literal, Clause, IsTautology, IsTrueIn, IsWithin, negation}
 use Rattle.dimacs.proofs.Members.{Contains-cons, Contains-cons_cases, Contains-head, Contains-nil}
@@ -12,18 +12,17 @@ use Rattle.lrat_text.specs.Grammar.{IsClauseNumber, IsGroup, IsStepWithin}
 use Rattle.lrat_text.specs.Lines.{IsOpen}
 use Rattle.lrat_text.specs.Log.{Cube, log_top}
 use Rattle.lrat_text.specs.Runs.{after_steps, text_of, top_of}
-use Rattle.lrat_text.specs.declared.step.Step.{Step}
 use Rattle.lrat_text.specs.declared.step.Step.TheVariants.{Add}
 use Rattle.lrat_text.proofs.ClauseMapLemmas.{numbered_at}
 use Rattle.cube_solve.specs.Session.{AllTrue, IsSolution, last_of, log_of, vars_of}
 use Rattle.cube_solve.specs.SessionLog.{AreRightSteps, IsKnown, LogGrowsFrom}
 use Rattle.cube_solve.specs.Subsequences.{IsSubsequenceOf}
 use Rattle.cube_solve.specs.declared.session.Session.{Session}
-use Rattle.shared_logs.specs.SharedLogs.{SharedLogState, SharedStep, IsSharedStep, after_line, initial_state}
-use Rattle.shared_logs.specs.SharedText.{IsName, IsUnused, Names, SpellsName, SpellsSharedStep}
-use Rattle.cell_worker.specs.WorkerLog.{HasWritten, IsSharedText, clock_in, last_in, log_state, names_in, vars_in}
+use Rattle.shared_logs.specs.SharedLogs.{SharedLogState, SharedStep, Import, IsSharedStep, after_line, initial_state}
+use Rattle.shared_logs.specs.SharedText.{Names, SpellsName, SpellsSharedStep}
+use Rattle.cell_worker.specs.WorkerLog.{AreNamed, HasWritten, IsImport, IsSharedText, TakesOver, clock_in, last_in, log_state, names_in, vars_in}
 use Rattle.cell_worker.specs.declared.worker.CellWorker.{CellWorker}
-use Rattle.cell_worker.proofs.TextLemmas.{formula_lives, own, own_state, state_append, state_push, text_begins, text_lines, text_more, text_named}
+use Rattle.cell_worker.proofs.TextLemmas.{formula_lives, own, own_state, state_append, state_push, text_lines, text_more, text_named}
 
 -- ---- literals of a core
 pub part_within : (xs ys : List Literal) (l : Literal) → IsSubsequenceOf xs ys → Contains xs l → Contains ys l
@@ -162,3 +161,22 @@ module _ {P : Type 0} (F : Cnf) (names : Names) (steps : List SharedStep) (text 
           (formula_lives (length F.clauses) (initial_state F) (steps ++ map own x.steps) (i + 1) C (w.is_text).is_log (omega arith) (omega arith) (numbered_at F.clauses i d b)));
       query = holds;
     }
+
+-- ---- offers that are taken over
+module _ {P : Type 0} where
+  pub takes_none : (s : CellWorker P) → TakesOver s s
+  takes_none s = λ F names steps text h named. ([], All-nil IsImport, subst (λ (ls : List SharedStep). HasWritten F names ls text s) (sym (append-nil steps)) h)
+
+  pub takes_on : (s u w : CellWorker P) → TakesOver s u → names_in u ≡ names_in s → TakesOver u w → TakesOver s w
+  takes_on s u w f same g = λ F names steps text h named.
+      let a = f F names steps text h named in
+      let b = g F names (steps ++ a.0) text a.2 (subst (AreNamed names) (sym same) named) in
+      (a.0 ++ b.0, All-append IsImport a.0 b.0 a.1 b.1, subst (λ (ls : List SharedStep). HasWritten F names ls text w) (append_assoc steps a.0 b.0) b.2)
+
+  pub takes_lent : (lent : Bool) (s u : CellWorker P) (log there : ℕ) (C : Clause)
+      → MatchBool lent ((F : Cnf) (names : Names) (steps : List SharedStep) (text name : List ℕ) → HasWritten F names steps text s → Contains names (log, name) → HasWritten F names (steps ++ Import (last_in u) C name there ∷ []) text u) (u ≡ s)
+      → 1 ≤ log → log ≤ names_in s → TakesOver s u
+  takes_lent true s u log there C h low high = λ F names steps text w named.
+      let n = named log low high in
+      (Import (last_in u) C n.0 there ∷ [], All-cons IsImport (Import (last_in u) C n.0 there) [] tt (All-nil IsImport), h F names steps text n.0 w n.1)
+  takes_lent false s u log there C e low high = subst (TakesOver s) (sym e) (takes_none s)

@@ -1,7 +1,6 @@
 -- What a worker of a cell has written: the text of a log with imports.
 use Rattle.std.specs.Prelude.{◌≡◌, ℕ, ◌≤◌, List, [], ◌∷◌, ◌++◌, length, fold, All, Contains}
 use Rattle.dimacs.specs.logic.Cnf.{Cnf}
-use Rattle.dimacs.specs.logic.ClauseMap.{live_in, map_of}
 use Rattle.dimacs.specs.logic.Literal.{Literal, Clause, negation}
 use Rattle.clause_arena.specs.Clauses.{Clauses}
 use Rattle.lrat_text.specs.Log.{Cube, log_top}
@@ -24,7 +23,18 @@ pub record IsSharedText (F : Cnf) (names : Names) (steps : List SharedStep) (byt
 abbrev pub log_state : Cnf → List SharedStep → SharedLogState
 log_state F steps = fold after_line (initial_state F) steps
 
+-- each number from 1 to n stands for a name
+abbrev pub AreNamed : Names → ℕ → Type 0
+AreNamed names n = (number : ℕ) → 1 ≤ number → number ≤ n → (name : List ℕ) × Contains names (number, name)
+
 -- ---- turns
+-- the line is an import
+abbrev pub IsImport : SharedStep → Type 0
+IsImport (Lemma number C hints) = ⊥
+IsImport (Import number C name there) = Unit {0}
+IsImport (Deletion numbers) = ⊥
+IsImport (Clock time) = ⊥
+
 -- the line is a lemma or a deletion
 abbrev pub IsOwn : SharedStep → Type 0
 IsOwn (Lemma number C hints) = Unit {0}
@@ -92,3 +102,9 @@ module _ {P : Type 0} where
     pub own : All IsOwn lines
     pub right : IsRightTurn F query lines end_
     pub written : HasWritten F names (steps ++ lines) text w
+
+  -- imports were written behind what the worker `old` had written, if each number up to the last one that it gave stands for a name
+  abbrev pub TakesOver : CellWorker P → CellWorker P → Type 0
+  TakesOver old new =
+      (F : Cnf) (names : Names) (steps : List SharedStep) (text : List ℕ) → HasWritten F names steps text old → AreNamed names (names_in old)
+      → (lines : List SharedStep) × All IsImport lines × HasWritten F names (steps ++ lines) text new

@@ -1,4 +1,4 @@
-use Rattle.std.proofs.Common.{List, [], ◌++◌, ◌∙◌, ap, sym, subst, arith}
+use Rattle.std.proofs.Common.{List, ◌++◌, ◌∙◌, ap, sym, subst, arith}
 use Rattle.std.proofs.lemmas.Result.{on_ok_weaker}
 use Rattle.dimacs.specs.logic.Rat.{Group}
 use Rattle.lrat_text.specs.Grammar.{IsStepWithin}

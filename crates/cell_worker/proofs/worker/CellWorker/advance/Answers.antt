@@ -1,7 +1,7 @@
-use Rattle.std.proofs.Common.{◌+◌, ◌<◌, ◌≤◌, ◌^◌, refl, sym, ◌∙◌, ap, subst, arith}
+use Rattle.std.proofs.Common.{◌+◌, ◌<◌, ◌≤◌, ◌^◌, refl, arith}
 use Rattle.lrat_text.specs.Grammar.{IsClauseNumber}
 use Rattle.shared_logs.specs.SharedLogs.{Clock}
-use Rattle.cell_worker.specs.WorkerLog.{HasWritten, clock_in, log_state}
+use Rattle.cell_worker.specs.WorkerLog.{log_state}
 use Rattle.cell_worker.specs.inner.SharedLines.{clock_text}
 use Rattle.cell_worker.proofs.SpellingLemmas.{clock_open, clock_spelled}
 use Rattle.cell_worker.proofs.WrittenLemmas.{written_line}

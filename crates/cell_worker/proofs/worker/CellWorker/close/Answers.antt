@@ -1,9 +1,9 @@
-use Rattle.std.proofs.Common.{◌≡◌, ℕ, ◌+◌, ◌<◌, ◌≤◌, ◌^◌, inl, inr, List, [], ◌∷◌, ◌++◌, map, refl, sym, ◌∙◌, ap, subst, arith}
+use Rattle.std.proofs.Common.{◌≡◌, ℕ, ◌+◌, ◌≤◌, inl, inr, List, [], ◌++◌, map, refl, sym, ◌∙◌, ap, subst, arith}
 use Rattle.std.specs.List.{All}
 use Rattle.std.specs.FinMap.{insert}
-use Rattle.std.proofs.lemmas.List.Elements.{All-nil, All-weaker}
+use Rattle.std.proofs.lemmas.List.Elements.{All-nil}
 use Rattle.dimacs.specs.logic.Literal.{Clause, IsWithin, negation}
-use Rattle.lrat_text.specs.Grammar.{IsClauseNumber, IsGroup, IsStepWithin}
+use Rattle.lrat_text.specs.Grammar.{IsClauseNumber}
 use Rattle.lrat_text.specs.Log.{log_top}
 use Rattle.lrat_text.specs.WrittenLine.{line_of, line_text}
 use Rattle.lrat_text.specs.declared.step.Step.TheVariants.{Add}
@@ -11,7 +11,7 @@ use Rattle.lrat_text.proofs.LineLemmas.{written_one_line_within, written_spells_
 use Rattle.cube_solve.specs.SessionLog.{IsKnown}
 use Rattle.cube_solve.proofs.SessionLemmas.{within_map}
 use Rattle.shared_logs.specs.SharedLogs.{Lemma}
-use Rattle.cell_worker.specs.WorkerLog.{HasWritten, last_in, log_state, vars_in}
+use Rattle.cell_worker.specs.WorkerLog.{last_in, log_state, vars_in}
 use Rattle.cell_worker.proofs.SpellingLemmas.{open_of}
 use Rattle.cell_worker.proofs.WrittenLemmas.{lemma_limits, top_few, top_more, written_line}
 use Rattle.cell_worker.proofs.worker.CellWorker.close.Goals as goal

@@ -1,12 +1,9 @@
-use Rattle.std.proofs.Common.{◌≡◌, ℕ, ◌+◌, ◌<◌, ◌≤◌, ◌^◌, List, [], ◌∷◌, ◌++◌, refl, sym, ◌∙◌, ap, subst, arith}
+use Rattle.std.proofs.Common.{◌≡◌, ◌+◌, ◌≤◌, [], ◌∷◌, ◌++◌, refl, sym, subst, arith}
 use Rattle.std.specs.List.{All}
-use Rattle.std.proofs.lemmas.List.Elements.{All-cons, All-nil, All-weaker}
 use Rattle.dimacs.specs.logic.Literal.{IsWithin}
-use Rattle.lrat_text.specs.Grammar.{IsClauseNumber, IsGroup, IsStepWithin}
 use Rattle.lrat_text.specs.Log.{log_top}
-use Rattle.lrat_text.specs.declared.step.Step.TheVariants.{Add}
 use Rattle.shared_logs.specs.SharedLogs.{Import}
-use Rattle.cell_worker.specs.WorkerLog.{HasWritten, last_in, log_state, vars_in}
+use Rattle.cell_worker.specs.WorkerLog.{last_in, log_state, vars_in}
 use Rattle.cell_worker.specs.inner.SharedLines.{import_text}
 use Rattle.cell_worker.proofs.SpellingLemmas.{import_open, import_spelled}
 use Rattle.cell_worker.proofs.WrittenLemmas.{import_limits, top_few, top_more, written_line}

@@ -1,6 +1,5 @@
-use Rattle.std.proofs.Common.{◌+◌, ◌<◌, ◌≤◌, ◌^◌, refl, subst, arith}
+use Rattle.std.proofs.Common.{◌+◌, refl, arith}
 use Rattle.lrat_text.specs.Grammar.{IsClauseNumber}
-use Rattle.cell_worker.specs.WorkerLog.{HasWritten}
 use Rattle.cell_worker.specs.inner.SharedLines.{name_text}
 use Rattle.cell_worker.proofs.SpellingLemmas.{name_open, name_spelled}
 use Rattle.cell_worker.proofs.WrittenLemmas.{written_named}

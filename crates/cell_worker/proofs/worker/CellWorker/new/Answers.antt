@@ -1,10 +1,9 @@
-use Rattle.std.proofs.Common.{ℕ, ◌≤◌, List, [], ◌++◌, length, map, refl, sym, ◌∙◌, ap, subst, arith}
-use Rattle.std.specs.List.{All}
+use Rattle.std.proofs.Common.{◌≤◌, [], length, refl, sym, ◌∙◌, ap, subst, arith}
 use Rattle.std.proofs.lemmas.List.Elements.{All-nil}
 use Rattle.dimacs.specs.logic.Cnf.{Cnf}
 use Rattle.dimacs.specs.logic.ClauseMap.{map_of}
 use Rattle.cube_solve.specs.SessionLog.{IsKnown}
-use Rattle.cell_worker.specs.WorkerLog.{HasWritten, IsSharedText}
+use Rattle.cell_worker.specs.WorkerLog.{IsSharedText}
 use Rattle.cell_worker.proofs.TextLemmas.{text_begins}
 use Rattle.cell_worker.proofs.WrittenLemmas.{first_all, first_low, first_numbers}
 use Rattle.cell_worker.proofs.worker.CellWorker.new.Goals as goal

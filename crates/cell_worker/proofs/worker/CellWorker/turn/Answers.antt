@@ -1,5 +1,4 @@
-use Rattle.std.proofs.Common.{◌≡◌, ℕ, ◌≤◌, List, [], ◌∷◌, ◌++◌, map, append_assoc, refl, sym, ◌∙◌, ap, subst}
-use Rattle.std.specs.List.{All}
+use Rattle.std.proofs.Common.{List, [], ◌∷◌, ◌++◌, map, append_assoc, refl, sym, subst}
 use Rattle.std.proofs.lemmas.List.Elements.{All-append, All-cons, All-nil}
 use Rattle.dimacs.specs.logic.ClauseMap.{ClauseMap}
 use Rattle.dimacs.specs.logic.Literal.{negation}
@@ -8,7 +7,7 @@ use Rattle.cube_solve.specs.SessionLog.{FitsQuery, HasFailed, IsFailure, IsOver,
 use Rattle.cube_solve.specs.declared.answer.Answer.{Answer}
 use Rattle.cube_solve.proofs.SessionLemmas.{from_map}
 use Rattle.shared_logs.specs.SharedLogs.{SharedStep, Lemma}
-use Rattle.cell_worker.specs.WorkerLog.{HasTurned, HasWritten, IsOwn, log_state, vars_in}
+use Rattle.cell_worker.specs.WorkerLog.{HasWritten, IsOwn, log_state, vars_in}
 use Rattle.cell_worker.proofs.TextLemmas.{all_own, own}
 use Rattle.cell_worker.proofs.WrittenLemmas.{own_live, part_plain, part_within, solved, written_lines}
 use Rattle.cell_worker.proofs.worker.CellWorker.turn.Goals as goal
