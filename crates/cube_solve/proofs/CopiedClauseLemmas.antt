@@ -1,12 +1,12 @@
 -- Clauses that are copied from another search.
-use Rattle.std.proofs.Common.{◌≡◌, ℕ, ◌+◌, ◌^◌, ◌<◌, ◌≤◌, inl, inr, List, [], length, Option, Some, None, sym, ◌∙◌, ap, subst, arith}
+use Rattle.std.proofs.Common.{◌≡◌, ℕ, ◌+◌, ◌^◌, ◌≤◌, inl, inr, List, [], length, Option, Some, None, sym, ◌∙◌, ap, subst, arith}
 use Rattle.std.specs.List.{All, Contains}
 use Rattle.std.specs.FinMap.{get}
 use Rattle.std.proofs.lemmas.Bool.{cases_eq}
 use Rattle.std.proofs.lemmas.List.Elements.{All-weaker}
 use Rattle.dimacs.specs.logic.ClauseMap.{ClauseMap, Live, live_in, map_of}
 use Rattle.dimacs.specs.logic.Cnf.{Cnf}
-use Rattle.dimacs.specs.logic.Literal.{Clause, IsTrueIn, IsWithin}
+use Rattle.dimacs.specs.logic.Literal.{Clause, IsWithin}
 use Rattle.clause_arena.specs.Clauses.{Clauses, IsLive, live_of}
 use Rattle.clause_arena.specs.declared.reference.Ref.{Ref}
 use Rattle.conflict_analysis.specs.BuiltTrails.{AreInside}

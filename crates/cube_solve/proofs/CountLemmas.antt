@@ -1,5 +1,5 @@
 -- The counts of a search are those of its log.
-use Rattle.std.proofs.Common.{◌≡◌, ℕ, ◌+◌, Bool, List, [], length, Option, Some, refl, sym, ◌∙◌, subst, arith}
+use Rattle.std.proofs.Common.{◌≡◌, ℕ, ◌+◌, Bool, List, [], length, Some, refl, sym, ◌∙◌, subst, arith}
 use Rattle.dimacs.specs.logic.Cnf.{Cnf}
 use Rattle.dimacs.specs.logic.ClauseMap.{Live}
 use Rattle.dimacs.specs.logic.Literal.{Clause}

@@ -19,7 +19,7 @@ use Rattle.lrat_text.proofs.ClauseMapLemmas.{numbered_between, numbered_at, some
 use Rattle.watches.specs.Law.{NoneFalseOrUnit, SameUpToOrder}
 use Rattle.watches.specs.Trails.{TrailValue, holds}
 use Rattle.cube_solve.specs.Conflicts.{AllHold}
-use Rattle.cube_solve.specs.Session.{AreGiven, FollowsFrom, IsReady, IsSolution, IsCore, live_in_session, vars_of}
+use Rattle.cube_solve.specs.Session.{AllTrue, AreGiven, FollowsFrom, IsReady, IsSolution, IsCore, live_in_session, vars_of}
 use Rattle.cube_solve.specs.declared.search.Search.{Search}
 use Rattle.cube_solve.specs.declared.session.Session.{Session}
 use Rattle.cube_solve.specs.inner.Reduction.{AreLemmas, DeletesLemmas}
@@ -130,6 +130,15 @@ has_given F old new id C lits lemmas twins below live add h = record {
 }
 
 -- ---- answers
+module _ (t : TrailValue) (values : List Bool) (reads : (l : Literal) → IsWithin t.vars l → holds t.entries l ≡ true → literal_true (assignment_of values) l ≡ true) where
+  pub live_true : (att : List ℕ) (m : Clauses) → IsState att m t → NoneFalseOrUnit (live_of m) (holds t.entries) → IsTotal t → (n : ℕ) (D : Clause) → live_of m n D → IsTrueIn (assignment_of values) D
+  live_true att m s calm total n D x =
+      let r = calm_is_true t D (λ l k. All-contains (IsWithin t.vars) D l (s.inside n D x) k) total (calm n D x) in
+      (r.0, r.1, reads r.0 r.3 r.2)
+
+  pub query_true : (A q : Cube) → AllHold t.entries q → AreTwins A q → All (IsWithin t.vars) A → AllTrue (assignment_of values) A
+  query_true A q all twins within l i = reads l (All-contains (IsWithin t.vars) A l within i) (all l ((twins l).0 i))
+
 pub solution : (F : List Clause) (A q : Cube) (att : List ℕ) (m : Clauses) (t : TrailValue) (lemmas : List ℕ) (values : List Bool) → HasClauses F (live_of m) lemmas → IsState att m t
     → NoneFalseOrUnit (live_of m) (holds t.entries) → AllHold t.entries q → IsTotal t → AreTwins A q → All (IsWithin t.vars) A → length values ≡ t.vars
     → ((l : Literal) → IsWithin t.vars l → holds t.entries l ≡ true → literal_true (assignment_of values) l ≡ true) → IsSolution t.vars F A values
@@ -138,9 +147,9 @@ solution F A q att m t lemmas values h s calm all total twins within len reads =
   clauses = λ i d b.
       let C = get_or F i d in
       let x = h.there C (Contains-get_or F i d b) in
-      let r = calm_is_true t x.1 (λ l k. All-contains (IsWithin t.vars) x.1 l (s.inside x.0 x.1 x.2) k) total (calm x.0 x.1 x.2) in
-      (r.0, (x.3 r.0).1 r.1, reads r.0 r.3 r.2);
-  query = λ l i. reads l (All-contains (IsWithin t.vars) A l within i) (all l ((twins l).0 i));
+      let r = live_true t values reads att m s calm total x.0 x.1 x.2 in
+      (r.0, (x.3 r.0).1 r.1, r.2);
+  query = query_true t values reads A q all twins within;
 }
 
 pub core_fails : (F : List Clause) (A q : Cube) (live : Live) (vars : ℕ) (lemmas : List ℕ) (lemma : Lemma) (core : List Literal) → HasClauses F live lemmas → RefutesQuery live vars q lemma

@@ -1,5 +1,5 @@
 -- Subsequences of lists of literals.
-use Rattle.std.proofs.Common.{◌≡◌, inl, inr, Bool, true, false, cond, List, [], ◌∷◌, ◌++◌, refl, sym, ◌∙◌, ap, subst}
+use Rattle.std.proofs.Common.{inl, inr, Bool, true, false, cond, List, [], ◌∷◌, ◌++◌, refl, ◌∙◌}
 use Rattle.std.specs.List.{filter}
 use Rattle.dimacs.specs.logic.Literal.{Literal}
 use Rattle.cube_solve.specs.Subsequences.{IsSubsequenceOf}

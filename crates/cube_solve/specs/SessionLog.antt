@@ -3,17 +3,19 @@ use Rattle.std.specs.Prelude.{◌≡◌, ℕ, ◌+◌, ◌≤◌, List, [], ◌�
 use Rattle.std.specs.FinMap.{get}
 use Rattle.std.specs.List.{IsDistinct}
 use Rattle.dimacs.specs.logic.ClauseMap.{ClauseMap, live_in}
-use Rattle.dimacs.specs.logic.Literal.{Literal, IsTautology, IsWithin, negation}
+use Rattle.dimacs.specs.logic.Cnf.{assignment_of}
+use Rattle.dimacs.specs.logic.Literal.{Literal, Clause, IsTautology, IsTrueIn, IsWithin, negation}
 use Rattle.dimacs.specs.logic.Propagation.{Rup}
 use Rattle.lrat_text.specs.Grammar.{IsClauseNumber, IsStepWithin}
-use Rattle.lrat_text.specs.Log.{after_step, top_after}
+use Rattle.lrat_text.specs.Log.{Cube, after_step, top_after}
 use Rattle.lrat_text.specs.Runs.{after_steps, text_of, top_of}
 use Rattle.lrat_text.specs.declared.step.Step.{Step}
 use Rattle.lrat_text.specs.declared.step.Step.TheVariants.{Add, Delete}
-use Rattle.cube_solve.specs.Session.{last_of, live_in_session, log_of, vars_of}
+use Rattle.cube_solve.specs.Session.{AllTrue, last_of, live_in_session, log_of, vars_of}
 use Rattle.cube_solve.specs.declared.answer.Answer.{Answer}
 use Rattle.cube_solve.specs.declared.answer.Answer.TheVariants as answer
 use Rattle.cube_solve.specs.declared.session.Session.{Session}
+use Rattle.cube_solve.specs.Subsequences.{IsSubsequenceOf}
 use Rattle.cube_solve.specs.inner.Twins.{AreLinked}
 
 -- a step is right if the clauses of M are live, `top` is the greatest clause number so far, and `given` are the numbers of given clauses:
@@ -67,3 +69,17 @@ abbrev pub HasFailed : {P : Type 0} → Answer → Session P → Type 0
 HasFailed (answer.Satisfied values) s = Unit {0}
 HasFailed (answer.Failed failure) s = (given : List ℕ) (M : ClauseMap) → IsKnown given M s → IsFailure M failure.core.items failure.hints.items
 HasFailed answer.Unknown s = Unit {0}
+
+-- an answer's property, whatever clauses there are: a solution makes each literal of the query A true; a core has literals of A, in their
+-- order
+abbrev pub FitsQuery : Cube → Answer → Type 0
+FitsQuery A (answer.Satisfied values) = AllTrue (assignment_of values) A
+FitsQuery A (answer.Failed failure) = IsSubsequenceOf failure.core.items A
+FitsQuery A answer.Unknown = Unit {0}
+
+-- an answer's property: whatever clauses are known to be live in the session, a solution makes them true
+abbrev pub SatisfiesLive : {P : Type 0} → Answer → Session P → Type 0
+SatisfiesLive (answer.Satisfied values) s =
+    (given : List ℕ) (M : ClauseMap) → IsKnown given M s → (n : ℕ) (C : Clause) → live_in M n C → IsTrueIn (assignment_of values) C
+SatisfiesLive (answer.Failed failure) s = Unit {0}
+SatisfiesLive answer.Unknown s = Unit {0}

@@ -7,7 +7,7 @@ ghost use Rattle.lrat_text.specs.Log.{Cube};
 ghost use Rattle.watches.specs.Law.{IsConflict};
 ghost use Rattle.watches.specs.Trails.{holds, present};
 ghost use Rattle.cube_solve.specs.Session.{IsReady, AreGiven, vars_of, last_of, IsRightAnswer, IfUnknown};
-ghost use Rattle.cube_solve.specs.SessionLog.{LogGrows, HasFailed, IsOver};
+ghost use Rattle.cube_solve.specs.SessionLog.{FitsQuery, HasFailed, IsOver, LogGrows, SatisfiesLive};
 ghost use Rattle.cube_solve.specs.inner.Queries.{ArePicked, RefutesQuery, IfLimit, IsQueryResult};
 ghost use Rattle.cube_solve.specs.inner.State.{IsAssuming};
 ghost use Rattle.cube_solve.specs.inner.Marks.{AreMarks};
@@ -243,6 +243,9 @@ impl<P: Propagator> Session<'_, P> {
         ensures most { OnOk result (last_of self.new ≤ last_of self.old + limit) }
         ensures failed { IfOk result (λ answer. HasFailed answer self.new) }
         ensures over { IfOk result (IsOver (vars_of self.old)) }
+        // whatever the session was lent
+        ensures fits { IfOk result (FitsQuery query.now) }
+        ensures live { IfOk result (λ answer. SatisfiesLive answer self.new) }
     {
         let kept = self.without_repeats(query)?;
         self.begin();

@@ -150,6 +150,13 @@ impl<'a, P: Propagator> Session<'a, P> {
         self.search.state.order.diversify(vars, seed)
     }
 
+    /// How many variables the session has.
+    pub fn vars(&self) -> u32
+        ensures { result ≡ vars_of self.now }
+    {
+        self.search.state.trail.vars()
+    }
+
     /// The greatest number of a clause so far, given or learnt.
     pub fn last(&self) -> u64
         ensures { result ≡ last_of self.now }

@@ -1,4 +1,4 @@
-use Rattle.std.proofs.Common.{◌≡◌, ◌+◌, ℕ, refl, sym, ◌∙◌, subst, arith}
+use Rattle.std.proofs.Common.{◌≡◌, ◌+◌, refl, sym, subst, arith}
 use Rattle.std.specs.List.{All}
 use Rattle.dimacs.specs.logic.Literal.{IsWithin}
 use Rattle.clause_arena.specs.Clauses.{live_of}

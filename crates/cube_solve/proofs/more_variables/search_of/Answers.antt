@@ -1,4 +1,4 @@
-use Rattle.std.proofs.Common.{◌≡◌, ◌≤◌, ◌∙◌, ap, arith, sym, subst}
+use Rattle.std.proofs.Common.{◌≤◌, ◌∙◌, ap, sym, subst}
 use Rattle.dimacs.specs.layout.BuilderState.{BuilderState}
 use Rattle.dimacs.specs.logic.Cnf.{Cnf}
 use Rattle.clause_arena.specs.Clauses.{live_of}

@@ -6,7 +6,8 @@ use Rattle.clause_arena.specs.Clauses.{live_of}
 use Rattle.cube_solve.specs.Session.{IsSolution, vars_of}
 use Rattle.cube_solve.specs.inner.Twins.{AreTwins}
 use Rattle.cube_solve.specs.inner.Queries.{ArePicked, RefutesQuery, IsQueryResult}
-use Rattle.cube_solve.proofs.SessionLemmas.{core_fails, solution}
+use Rattle.cube_solve.proofs.SessionLemmas.{core_fails, live_true, query_true, solution}
+use Rattle.cube_solve.proofs.SubsequenceLemmas.{part_trans}
 use Rattle.cube_solve.proofs.SessionLogLemmas.{failure, linked_search, tells_on}
 use Rattle.cube_solve.proofs.session.Session.ask.Goals as goal
 
@@ -84,3 +85,34 @@ returns-in-Failed-clause-failed g c = λ given M h.
     (subst (λ (C : Clause). RefutesQuery (live_of s.state.arena) t.vars C lemma) c.deref.ensures.value f)
     (subst (λ (C : Clause). ArePicked C lemma.lits.items core.core.items) c.deref-in-Failed.ensures.value (subst (λ (C : Clause). ArePicked c.deref-in-Failed.result.now C core.core.items) c.deref-in-Failed-2.ensures.value core.ensures.picked))
     M (linked_search c.search_query.new.self c.core_of.new.self core.ensures.search given M h)
+
+pub returns-in-Model-clause-fits : goal.returns-in-Model-clause-fits
+returns-in-Model-clause-fits g c =
+    let A = c.args.query.now in
+    let k = c.in_ok-kept in
+    let e = c.in_ok-sought.ensures in
+    let s = c.search_query.new.self.search in
+    let t = s.state.trail in
+    let q = c.deref.result.now in
+    let r = c.in_ok-values-in-Model in
+    let v : t.vars ≡ vars_of c.args.self.now = e.vars ∙ c.begin.ensures.vars ∙ k.ensures.vars in
+    let f = subst (IsQueryResult s.state.arena t q) c.in-Model.is e.sought in
+    query_true t r.values r.ensures.values A q f.1 (subst (λ (C : Clause). AreTwins A C) (sym c.deref.ensures.value) (k.ensures.marks).twins) (subst (λ n. All (IsWithin n) A) (sym v) c.requires.within)
+
+pub returns-in-Failed-clause-fits : goal.returns-in-Failed-clause-fits
+returns-in-Failed-clause-fits g c =
+    let k = c.in_ok-kept in
+    let core = c.in_ok-core-in-Failed in
+    let p = subst (λ (C : Clause). ArePicked C c.in-Failed.lemma.lits.items core.core.items) c.deref-in-Failed.ensures.value (subst (λ (C : Clause). ArePicked c.deref-in-Failed.result.now C core.core.items) c.deref-in-Failed-2.ensures.value core.ensures.picked) in
+    part_trans core.core.items k.kept.items c.args.query.now p.part (k.ensures.marks).part
+
+pub returns-in-Model-clause-live : goal.returns-in-Model-clause-live
+returns-in-Model-clause-live g c = λ given M h n C l.
+    let e = c.in_ok-sought.ensures in
+    let s = c.search_query.new.self.search in
+    let t = s.state.trail in
+    let r = c.in_ok-values-in-Model in
+    let f = subst (IsQueryResult s.state.arena t c.deref.result.now) c.in-Model.is e.sought in
+    let d = (h.linked).forth n C l in
+    let w = live_true t r.values r.ensures.values _ s.state.arena ((e.ready).steady).state f.0 f.2 n d.0 d.1 in
+    (w.0, (d.2 w.0).1 w.1, w.2)

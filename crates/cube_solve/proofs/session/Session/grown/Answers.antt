@@ -1,4 +1,4 @@
-use Rattle.std.proofs.Common.{◌≡◌, ap}
+use Rattle.std.proofs.Common.{ap}
 use Rattle.cube_solve.proofs.CopiedClauseLemmas.{grown_given, grown_known, grown_ready, parts_below}
 use Rattle.cube_solve.proofs.session.Session.grown.Goals as goal
 

@@ -1,0 +1,2 @@
+pub mod WorkerLog
+pub mod inner

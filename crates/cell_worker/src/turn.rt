@@ -1,0 +1,23 @@
+//! How a turn of a worker ends.
+
+use dimacs::Assignment;
+
+/// The end of a turn.
+pub enum Turn {
+    /// An assignment satisfies the formula and makes the query true.
+    Satisfied(Assignment),
+    /// The query fails: the lemma of this number, which the log has last, has only negations of its literals.
+    Closed(u64),
+    /// As many lemmas were learnt as the limit allows.
+    Limit,
+}
+
+impl Drop for Turn {
+    fn drop(self) {
+        match self {
+            Turn::Satisfied(_) => {}
+            Turn::Closed(_) => {}
+            Turn::Limit => {}
+        }
+    }
+}
