@@ -3,6 +3,7 @@
 use dimacs::Assignment;
 
 /// The end of a turn.
+#[derive(Drop)]
 pub enum Turn {
     /// An assignment satisfies the formula and makes the query true.
     Satisfied(Assignment),
@@ -10,14 +11,4 @@ pub enum Turn {
     Closed(u64),
     /// As many lemmas were learnt as the limit allows.
     Limit,
-}
-
-impl Drop for Turn {
-    fn drop(self) {
-        match self {
-            Turn::Satisfied(_) => {}
-            Turn::Closed(_) => {}
-            Turn::Limit => {}
-        }
-    }
 }

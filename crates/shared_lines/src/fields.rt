@@ -17,7 +17,7 @@ const NUMBERS: u64 = 1 << 48;
 pub(crate) const LAST_TIME: u64 = 1 << 40;
 
 /// Tells whether the bytes are the name of a log: 1 to 64 letters and digits.
-fn is_name(name: &[u8]) -> bool
+pub fn is_name(name: &[u8]) -> bool
     ensures { IsTrue result ↔ IsName name.now }
 {
     !name.is_empty()
@@ -25,8 +25,8 @@ fn is_name(name: &[u8]) -> bool
         && name.iter().all(|byte| byte.is_ascii_alphanumeric())
 }
 
-/// Tells whether the number can stand for a name: it has to be one that a hint can have.
-fn can_stand(number: u64) -> bool
+/// Tells whether the number is one of a clause, as that of a lemma or a hint, or one that can stand for a name.
+pub fn is_clause_number(number: u64) -> bool
     ensures { IsTrue result ↔ IsClauseNumber number }
 {
     1 <= number && number < NUMBERS
@@ -48,7 +48,7 @@ pub(crate) fn read_name(line: &[u8]) -> Option<(u64, &[u8])>
     let Some(name) = before_suffix(rest, b" 0") else {
         return None;
     };
-    if can_stand(number) && is_name(name) {
+    if is_clause_number(number) && is_name(name) {
         Some((number, name))
     } else {
         None

@@ -10,6 +10,7 @@ mod line_buffer;
 mod number;
 mod offer_buffer;
 
+pub use fields::{is_clause_number, is_name};
 pub use line::{Offer, SharedLine};
 pub use line_buffer::SharedLineBuffer;
 pub use offer_buffer::OfferBuffer;
