@@ -1,7 +1,6 @@
 //! The worker: a search that is lent lemmas, with the text of its log and its offers.
 
-ghost use Rattle.std.specs.Prelude.{◌≡◌, ℕ, ◌+◌, ◌^◌, ◌<◌, ◌≤◌, List, [], ◌∷◌, ◌++◌, map, max, MatchBool, IsTrue, All, Contains, IfOk, OnOk};
-ghost use Rattle.std.specs.Bool.{OnTrue};
+ghost use Rattle.std.specs.Prelude.{◌≡◌, ℕ, ◌+◌, ◌^◌, ◌<◌, ◌≤◌, List, [], ◌∷◌, ◌++◌, ◌⊎◌, map, max, MatchBool, IsTrue, All, Contains, IfOk, OnOk};
 ghost use Rattle.dimacs.specs.logic.Cnf.{Cnf};
 ghost use Rattle.dimacs.specs.logic.ClauseMap.{ClauseMap};
 ghost use Rattle.dimacs.specs.logic.Literal.{IsTautology, IsWithin, negation};
@@ -60,7 +59,8 @@ impl<P> Drop for CellWorker<'_, P> {
 
 /// Whether each literal of a clause has a variable from 1 to `vars`.
 fn is_within(vars: u32, clause: &[Lit]) -> bool
-    ensures { IsTrue result → All (IsWithin vars) clause.now }
+    ensures inside { IsTrue result → All (IsWithin vars) clause.now }
+    ensures outside { All (IsWithin vars) clause.now → IsTrue result }
 {
     for literal in clause {
         if literal.var().number() > vars {
@@ -169,7 +169,7 @@ impl<'a, P: Propagator> CellWorker<'a, P> {
         ensures names { OnOk result (names_in self.new ≡ names_in self.old) }
         ensures vars { OnOk result (vars_in self.new ≡ vars_in self.old) }
         ensures clock { OnOk result (clock_in self.new ≡ clock_in self.old) }
-        ensures earlier { IfOk result (λ lent. OnTrue lent (time < clock_in self.old)) }
+        ensures lent { IfOk result (λ lent. MatchBool lent ((time < clock_in self.old) × All (IsWithin (vars_in self.old)) clause.now) ((clock_in self.old ≤ time) ⊎ ¬ (All (IsWithin (vars_in self.old)) clause.now))) }
         ensures stands { IfOk result (λ lent. MatchBool lent ((F : Cnf) (names : Names) (steps : List SharedStep) (text name : List ℕ) → HasWritten F names steps text self.old → Contains names (log, name) → HasWritten F names (steps ++ Import (last_in self.new) clause.now name there ∷ []) text self.new) (self.new ≡ self.old)) }
     {
         if time >= self.clock || !is_within(self.search.vars(), clause) {

@@ -4,6 +4,8 @@
 #[cfg(test)]
 mod answers_texts;
 #[cfg(test)]
+mod cell_worker_turns;
+#[cfg(test)]
 mod clause_arena_calls;
 #[cfg(test)]
 mod cluster_closed;

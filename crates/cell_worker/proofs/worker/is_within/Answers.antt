@@ -10,5 +10,5 @@ loop-literal-preserved c =
     All-more (IsWithin c.args.vars) c.args.clause.now c.loop-literal.literal-index c.literal-item.result c.loop-literal-test.true c.loop-literal.invariant
     (subst (IsWithin c.args.vars) c.literal-item.is item)
 
-pub returns : goal.returns
-returns c = λ told. subst (All (IsWithin c.args.vars)) (take_all c.loop-literal.literal-index c.args.clause.now c.loop-literal-test.false) c.loop-literal.invariant
+pub returns-clause-inside : goal.returns-clause-inside
+returns-clause-inside c = λ told. subst (All (IsWithin c.args.vars)) (take_all c.loop-literal.literal-index c.args.clause.now c.loop-literal-test.false) c.loop-literal.invariant

@@ -15,7 +15,7 @@ use Rattle.cell_worker.proofs.worker.CellWorker.lend.Goals as goal
 pub put_import-requires : goal.put_import-requires
 put_import-requires g c =
     let s = c.args.self.now in
-    let within = subst (λ n. All (IsWithin n) c.args.clause.now) c.vars.ensures (c.is_within.ensures (search c.if-not-is_within.false)) in
+    let within = subst (λ n. All (IsWithin n) c.args.clause.now) c.vars.ensures (c.is_within.ensures.inside (search c.if-not-is_within.false)) in
     import_limits (vars_in s) 199999999 1 c.args.clause.now c.args.log c.args.there (c.requires.ready).few (omega arith, omega arith) within c.requires.named c.requires.there
 
 pub returns-clause-stands : goal.returns-clause-stands
@@ -28,7 +28,7 @@ returns-clause-stands g c = λ F names steps text name h i.
     let u = record s { search = c.lend.new.self; log = c.put_import.new.out; line = c.put_import.new.line } in
     let n = last_in u in
     let st = log_state F steps in
-    let within = subst (λ k. All (IsWithin k) C) c.vars.ensures (c.is_within.ensures (search c.if-not-is_within.false)) in
+    let within = subst (λ k. All (IsWithin k) C) c.vars.ensures (c.is_within.ensures.inside (search c.if-not-is_within.false)) in
     let most = log_top F in
     let few = top_few F (subst (λ k. k ≤ 199999999) h.vars (c.requires.ready).few) in
     let le : vars_in s ≤ most = subst (λ k. k ≤ most) (sym h.vars) (top_more F) in
