@@ -15,7 +15,7 @@ use Rattle.lrat_check.proofs.LogLines.{HasTakenLog, hands_piece, log_taken}
 use Rattle.lrat_text.specs.Grammar.{LineSpellsWithin, SpellsStepWithin, lf}
 use Rattle.lrat_text.specs.LineSink.{HandsOn}
 use Rattle.lrat_text.specs.Lines.{IsOpen}
-use Rattle.lrat_text.specs.Log.{Closes, Cube, IsLog, IsLogStep, Negates, log_top}
+use Rattle.lrat_text.specs.Log.{Closes, Cube, IsLogStep, Negates, log_top}
 use Rattle.lrat_text.specs.Runs.{after_steps, top_of}
 use Rattle.lrat_text.specs.declared.step.Step.{Step}
 use Rattle.lrat_text.proofs.RunLemmas.{log_append, spells_append_within}
