@@ -1,13 +1,13 @@
 //! Logs of searches that share lemmas, woven to one.
 
 use crate::inputs::{FOUR, literal_of};
-use dimacs::read;
+use dimacs::{Lit, read};
 use reports::Refusal;
 use std::alloc::Global;
 use std::process::Abort;
 use weaving::{CellLogs, LogSource, Weaver, survey_logs};
 
-/// The three logs of a cell over the four clauses, with their names, and the cube that is to be closed.
+/// The three logs of a cell over the four clauses.
 struct Cell {
     texts: [&'static [u8]; 3],
 }
@@ -26,18 +26,10 @@ struct Slow {
 
 impl LogSource for Slow {
     fn read(&mut self, room: &mut [u8]) -> Result<usize, Refusal> {
-        let mut count = 0;
-        for place in room.iter_mut() {
-            let Some((first, later)) = self.rest.split_first() else {
-                break;
-            };
-            if count == 3 {
-                break;
-            }
-            *place = *first;
-            self.rest = later;
-            count += 1;
-        }
+        let count = self.rest.len().min(room.len()).min(3);
+        let (first, later) = self.rest.split_at(count);
+        room[..count].copy_from_slice(first);
+        self.rest = later;
         Ok(count)
     }
 }
@@ -78,15 +70,15 @@ const B_EARLY: &[u8] = b"w 7 a 0\n5 i 2 0 7 5 0\n6 1 0 5 3 0\n";
 /// The log C, whose empty lemma lacks a hint.
 const C_WRONG: &[u8] = b"e 2 0\nw 1 b 0\n5 i 1 0 1 6 0\n6 0 5 0\n";
 
-/// Weaves the logs of a cell, for the cube of these numbers, and appends the text to `text`. Answers the outcome of a log, or `None` if no
-/// lemma closes the cube, or if the checker refuses a line.
+/// The text that is woven of the logs of a cell for the cube of these numbers; `None` if no lemma closes the cube, or if the checker
+/// refuses a line.
 fn woven(rt: &impl Abort, alloc: Global, cell: &Cell, cube: &[i32]) -> Option<Vec<u8>> {
     let formula = read(alloc, FOUR).expect(rt, "a formula");
     let mut literals = Vec::new(alloc);
     for number in cube {
         literals.push(literal_of(rt, *number)).expect(rt, "memory");
     }
-    let found = survey_logs(alloc, &formula, &literals, cell).expect(rt, "a survey");
+    let found = survey_logs(alloc, &formula, &[literals.as_slice()], cell).expect(rt, "a survey");
     let plan = found.plan?;
     let mut weaver = Weaver::of(alloc, formula, literals, plan, cell).expect(rt, "a weaver");
     match weaver.weave() {
@@ -148,4 +140,27 @@ fn logs_are_surveyed(rt: HostRuntime) {
         second(&rt, alloc, [A, b"7 0 1 0\n", b""]),
         Some((0, true, 0, 0))
     );
+}
+
+/// Cubes are closed by lemmas that stay.
+#[test]
+fn cubes_are_closed(rt: HostRuntime) {
+    let alloc = rt.alloc();
+    let formula = read(alloc, FOUR).expect(&rt, "a formula");
+    let left = [literal_of(&rt, -1)];
+    let right = [literal_of(&rt, 1)];
+    let cell = Cell { texts: [A, B, C] };
+    let cubes: [&[Lit]; 2] = [&left, &right];
+    let found = survey_logs(alloc, &formula, &cubes, &cell).expect(&rt, "a survey");
+    let plan = found.plan.expect(&rt, "a plan");
+    assert_eq!(&rt;
+        (plan.closes(0), plan.closes(1), plan.last()),
+        (true, true, 1)
+    );
+    let last = right.to_vec(alloc).expect(&rt, "memory");
+    let mut weaver = Weaver::of(alloc, formula, last, plan, &cell).expect(&rt, "a weaver");
+    assert_eq!(&rt; weaver.weave(), Ok(false));
+    let want = b"5 2 0 1 2 0\n6 1 0 5 3 0\n7 -2 0 6 4 0\n8 0 7 5 0\n".as_slice();
+    assert_eq!(&rt; weaver.written(), want);
+    assert!(&rt; weaver.closes(0, &left) && weaver.closes(1, &right) && !weaver.closes(0, &right));
 }

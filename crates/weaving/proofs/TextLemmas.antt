@@ -1,13 +1,13 @@
 -- The text that is woven grows by lines that the checker takes.
-use Rattle.std.proofs.Common.{◌≡◌, ℕ, ◌+◌, ◌<◌, Bool, true, false, inl, inr, List, [], ◌∷◌, ◌++◌, length, take, get_or, Result, Ok, Err, OnOk, refl, sym, ap, ◌∙◌, subst, append_assoc}
-use Rattle.std.specs.Prelude.{Contains}
+use Rattle.std.proofs.Common.{◌≡◌, ℕ, ◌<◌, Bool, true, false, List, [], ◌∷◌, ◌++◌, length, Some, Result, Ok, Err, OnOk, refl, sym, ap, ◌∙◌, subst, append_assoc}
 use Rattle.std.specs.Bool.{OnTrue}
+use Rattle.std.specs.FinMap.{get}
 use Rattle.std.proofs.lemmas.Bool.{true≢false}
-use Rattle.std.proofs.lemmas.List.{append-nil, take_more}
-use Rattle.std.proofs.lemmas.List.Elements.{All-cons, All-nil, Contains-push_cases}
+use Rattle.std.proofs.lemmas.List.{append-nil}
+use Rattle.std.proofs.lemmas.List.Elements.{All-cons, All-nil}
 use Rattle.dimacs.specs.logic.ClauseMap.{ClauseMap, map_of}
 use Rattle.dimacs.specs.logic.Cnf.{Cnf}
-use Rattle.dimacs.specs.logic.Literal.{Literal, Clause, negation}
+use Rattle.dimacs.specs.logic.Literal.{Clause}
 use Rattle.lrat_check.specs.Logs.{IsBegun, LogState, TakesLogLine}
 use Rattle.lrat_check.specs.declared.line_checker.CheckFault.{CheckFault}
 use Rattle.lrat_check.proofs.Lines.{no_lf_to}
@@ -19,13 +19,16 @@ use Rattle.lrat_text.specs.Log.{Closes, Cube, IsLogStep, Negates, log_top}
 use Rattle.lrat_text.specs.Runs.{after_steps, top_of}
 use Rattle.lrat_text.specs.declared.step.Step.{Step}
 use Rattle.lrat_text.proofs.RunLemmas.{log_append, spells_append_within}
+use Rattle.lidrup.specs.CubeLog.{ClosesCube}
+use Rattle.lidrup.specs.Lidrup.{IsClosing, Negates as IsNegated}
+use Rattle.lidrup.proofs.ClosingLemmas.{closes_cube, closing_is, on_true}
 use Rattle.weaving.specs.Woven.{ClosesAs, HasWoven, KeepsWoven}
 use Rattle.weaving.specs.declared.checked_text.CheckedText.{CheckedText}
-use Rattle.weaving.specs.inner.Lines.{AppendsLine, IsNegated}
+use Rattle.weaving.specs.inner.Lines.{AppendsLine}
 
 -- ---- the empty text
 pub woven_begun : (F : Cnf) (t : CheckedText) → IsBegun F t.checker → t.out.items ≡ [] → HasWoven F [] t
-woven_begun F t begun none = record { start = t.checker; begun = begun; hands = record { lines = []; whole = none; one_by_one = All-nil IsOpen; taken = refl } }
+woven_begun F t begun none = record { leads = record { start = t.checker; begun = begun; hands = record { lines = []; whole = none; one_by_one = All-nil IsOpen; taken = refl } } }
 
 -- ---- one line more
 one_line : (s : LogState) (line : List ℕ) (t : LogState) → IsOpen line → TakesLogLine s line t → HandsOn TakesLogLine s (line ++ lf ∷ []) t []
@@ -41,10 +44,12 @@ longer handed before after line e = append_assoc handed before (line ++ lf ∷ [
 
 pub line_keeps : (old new : CheckedText) → AppendsLine old.checker new.checker old.out.items new.out.items → KeepsWoven old new
 line_keeps old new a F handed h = record {
-  start = h.start;
-  begun = h.begun;
-  hands = subst (λ (x : List ℕ). HandsOn TakesLogLine h.start x new.checker []) (longer handed old.out.items new.out.items a.line a.out)
-      (hands_piece TakesLogLine h.start (handed ++ old.out.items) old.checker [] (a.line ++ lf ∷ []) new.checker [] h.hands (one_line old.checker a.line new.checker a.bare a.takes));
+  leads = record {
+    start = h.leads.start;
+    begun = h.leads.begun;
+    hands = subst (λ (x : List ℕ). HandsOn TakesLogLine h.leads.start x new.checker []) (longer handed old.out.items new.out.items a.line a.out)
+        (hands_piece TakesLogLine h.leads.start (handed ++ old.out.items) old.checker [] (a.line ++ lf ∷ []) new.checker [] h.leads.hands (one_line old.checker a.line new.checker a.bare a.takes));
+  };
 }
 
 pub on_line : (old new : CheckedText) (r : Result (Unit {0}) CheckFault) → OnOk r (AppendsLine old.checker new.checker old.out.items new.out.items) → OnOk r (KeepsWoven old new)
@@ -63,7 +68,7 @@ one_spelled most line step bare s = (line, [], refl, no_lf_to line bare, s, refl
 
 pub line_closes : (q : Cube) (old new : CheckedText) → AppendsLine old.checker new.checker old.out.items new.out.items → Negates q new.checker.step → ClosesAs q old new
 line_closes q old new a negates F handed h =
-    let taken : (steps : List Step) × HasTakenLog F (handed ++ old.out.items) steps old.checker [] = log_taken F h.start (handed ++ old.out.items) old.checker [] h.begun h.hands in
+    let taken : (steps : List Step) × HasTakenLog F (handed ++ old.out.items) steps old.checker [] = log_taken F h.leads.start (handed ++ old.out.items) old.checker [] h.leads.begun h.leads.hands in
     let steps = taken.0 in
     let t : HasTakenLog F (handed ++ old.out.items) steps old.checker [] = taken.1 in
     let step = new.checker.step in
@@ -80,12 +85,6 @@ line_closes q old new a negates F handed h =
       (steps, step, refl, negates),
     )
 
-pub negates_more : (q : Cube) (C : Clause) (i : ℕ) (l : Literal) → i < length C → l ≡ get_or C i l → Contains q (negation l) → IsNegated q (take i C) → IsNegated q (take (i + 1) C)
-negates_more q C i l inside at here before k m = elim (Contains-push_cases (take i C) (get_or C i l) k (subst (λ (D : Clause). Contains D k) (take_more C i l inside) m)) [
-  | inl h ↦ before k h
-  | inr same ↦ subst (λ j. Contains q (negation j)) (at ∙ same) here
-]
-
 pub of_true : (b : Bool) (P : Type 0) → b ≡ true → OnTrue b P → P
 of_true true P e h = h
 of_true false P e h = absurd (true≢false (sym e))
@@ -93,8 +92,20 @@ of_true false P e h = absurd (true≢false (sym e))
 -- ---- bytes that are handed out
 pub woven_handed : (F : Cnf) (handed : List ℕ) (old new : CheckedText) → new.checker ≡ old.checker → new.out.items ≡ [] → HasWoven F handed old → HasWoven F (handed ++ old.out.items) new
 woven_handed F handed old new same none h = record {
-  start = h.start;
-  begun = h.begun;
-  hands = subst (λ (x : List ℕ). HandsOn TakesLogLine h.start x new.checker []) (sym (ap (λ (o : List ℕ). (handed ++ old.out.items) ++ o) none ∙ append-nil (handed ++ old.out.items)))
-      (subst (λ (s : LogState). HandsOn TakesLogLine h.start (handed ++ old.out.items) s []) (sym same) h.hands);
+  leads = record {
+    start = h.leads.start;
+    begun = h.leads.begun;
+    hands = subst (λ (x : List ℕ). HandsOn TakesLogLine h.leads.start x new.checker []) (sym (ap (λ (o : List ℕ). (handed ++ old.out.items) ++ o) none ∙ append-nil (handed ++ old.out.items)))
+        (subst (λ (s : LogState). HandsOn TakesLogLine h.leads.start (handed ++ old.out.items) s []) (sym same) h.leads.hands);
+  };
 }
+
+-- ---- cubes
+pub has_closing : (s : LogState) (number : ℕ) (q : Cube) (C : Clause) (b : Bool) → s.base < number → get s.live number ≡ Some C → OnTrue b (IsNegated q C) → OnTrue b (IsClosing s.base s.live number q)
+has_closing s number q C b own lives = on_true b (IsNegated q C) (IsClosing s.base s.live number q) (closing_is s.base s.live number q C own lives)
+
+pub closing_closes : (t : CheckedText) (number : ℕ) (q : Cube) (b : Bool) → OnTrue b (IsClosing t.checker.base t.checker.live number q)
+    → OnTrue b ((F : Cnf) (handed : List ℕ) → HasWoven F handed t → ClosesCube F q (handed ++ t.out.items))
+closing_closes t number q b =
+    on_true b (IsClosing t.checker.base t.checker.live number q) ((F : Cnf) (handed : List ℕ) → HasWoven F handed t → ClosesCube F q (handed ++ t.out.items))
+    (λ k F handed h. closes_cube F q (handed ++ t.out.items) t.checker number h.leads k)

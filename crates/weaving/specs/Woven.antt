@@ -1,16 +1,13 @@
 -- The text that is woven, as far as it has come.
-use Rattle.std.specs.Prelude.{ℕ, List, [], ◌++◌}
+use Rattle.std.specs.Prelude.{ℕ, List, ◌++◌}
 use Rattle.dimacs.specs.logic.Cnf.{Cnf}
-use Rattle.lrat_check.specs.Logs.{IsBegun, LogState, TakesLogLine}
-use Rattle.lrat_text.specs.LineSink.{HandsOn}
+use Rattle.lidrup.specs.CubeLog.{LeadsTo}
 use Rattle.lrat_text.specs.Log.{Closes, Cube}
 use Rattle.weaving.specs.declared.checked_text.CheckedText.{CheckedText}
 
--- `handed` was handed out, and the rest of the text was not yet: the checker of logs over the formula took the lines of both
+-- `handed` was handed out, and the rest of the text was not yet: both are a log over the formula, whose lines led the checker to its state
 pub record HasWoven (F : Cnf) (handed : List ℕ) (t : CheckedText) : Type 0 where
-  pub start : LogState
-  pub begun : IsBegun F start
-  pub hands : HandsOn TakesLogLine start (handed ++ t.out.items) t.checker []
+  pub leads : LeadsTo F (handed ++ t.out.items) t.checker
 
 -- whatever was handed out of the text before, the text is one of the formula still
 abbrev pub KeepsWoven : CheckedText → CheckedText → Type 0

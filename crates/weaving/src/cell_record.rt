@@ -4,6 +4,7 @@ use crate::cell::CellLogs;
 use crate::fault::WeaveFault;
 use crate::lemma_table::{LemmaTable, digest_of};
 use crate::log_record::{Entry, LogRecord};
+use crate::open_cubes::OpenCubes;
 use crate::survey::LogOutcome;
 use dimacs::Lit;
 use shared_lines::SharedLine;
@@ -19,7 +20,7 @@ pub(crate) enum Taken {
     Later,
     /// The line is none of a log over the formula.
     Bad,
-    /// The line is a lemma of this number, and closes the cube.
+    /// The line is a lemma of this number, and closes a cube.
     Closing(u32),
 }
 
@@ -34,12 +35,24 @@ enum Basis {
     Unknown,
 }
 
+/// The parts of what is known of all logs.
+#[derive(Drop)]
+pub(crate) struct CellParts {
+    pub(crate) lemmas: LemmaTable,
+    /// For each log, the words that stand for its entries.
+    pub(crate) entries: Vec<Vec<u32>>,
+    /// By cube, the lemma that closes it.
+    pub(crate) closings: Vec<u32>,
+    /// For each log, what was found of it.
+    pub(crate) outcomes: Vec<LogOutcome>,
+}
+
 /// What is known of all logs.
 pub(crate) struct CellRecord {
     /// The number of clauses of the formula.
     rows: u64,
-    /// By literal, whether its negation is in the cube.
-    falsified: Vec<bool>,
+    /// The cubes that are to be closed.
+    cubes: OpenCubes,
     /// By name, the log.
     names: BTreeMap<Vec<u8>, usize>,
     pub(crate) records: Vec<LogRecord>,
@@ -53,7 +66,7 @@ impl Drop for CellRecord {
     fn drop(self) {
         let CellRecord {
             rows: _,
-            falsified: _,
+            cubes: _,
             names: _,
             records: _,
             lemmas: _,
@@ -61,21 +74,6 @@ impl Drop for CellRecord {
             outcomes: _,
         } = self;
     }
-}
-
-/// By literal, whether its negation is in the cube.
-fn falsified_by(alloc: Global, cube: &[Lit]) -> Result<Vec<bool>, AllocError> {
-    let mut places = 0;
-    for l in cube {
-        places = places.max(l.negate().index() + 1);
-    }
-    let mut falsified = vec![in alloc; false; places]?;
-    for l in cube {
-        if let Some(place) = falsified.get_mut(l.negate().index()) {
-            *place = true;
-        }
-    }
-    Ok(falsified)
 }
 
 /// Collects the lemmas among the hints of a lemma, over a formula of `rows` clauses.
@@ -106,12 +104,12 @@ impl CellRecord {
     pub(crate) fn of<L: CellLogs>(
         alloc: Global,
         rows: u64,
-        cube: &[Lit],
+        cubes: &[&[Lit]],
         logs: &L,
     ) -> Result<CellRecord, WeaveFault> {
         let mut cell = CellRecord {
             rows,
-            falsified: falsified_by(alloc, cube)?,
+            cubes: OpenCubes::of(alloc, cubes)?,
             names: BTreeMap::new(alloc),
             records: Vec::new(alloc),
             lemmas: LemmaTable::new(alloc),
@@ -137,14 +135,9 @@ impl CellRecord {
         Ok(())
     }
 
-    /// Tells whether each literal of a clause is the negation of one of the cube's.
-    fn closes(&self, clause: &[Lit]) -> bool {
-        for l in clause {
-            if self.falsified.get(l.index()) != Some(&true) {
-                return false;
-            }
-        }
-        true
+    /// Tells whether a cube is open.
+    pub(crate) fn any_open(&self) -> bool {
+        self.cubes.any_open()
     }
 
     /// Takes a lemma of a log.
@@ -171,7 +164,7 @@ impl CellRecord {
         }
         let lemma = self.lemmas.add(digest_of(literals), &self.basis)?;
         record.give(Entry::Lemma(lemma))?;
-        if self.closes(literals) {
+        if self.cubes.close(literals, lemma) {
             Ok(Taken::Closing(lemma))
         } else {
             Ok(Taken::Line)
@@ -316,14 +309,11 @@ impl CellRecord {
 }
 
 impl CellRecord {
-    /// Takes the record apart: the lemmas, for each log the words that stand for its entries, and what was found of each log.
-    pub(crate) fn into_parts(
-        self,
-        alloc: Global,
-    ) -> Result<(LemmaTable, Vec<Vec<u32>>, Vec<LogOutcome>), AllocError> {
+    /// Takes the record apart.
+    pub(crate) fn into_parts(self, alloc: Global) -> Result<CellParts, AllocError> {
         let CellRecord {
             rows: _,
-            falsified: _,
+            cubes,
             names: _,
             records,
             lemmas,
@@ -334,7 +324,12 @@ impl CellRecord {
         for record in records {
             entries.push(record.into_entries())?;
         }
-        Ok((lemmas, entries, outcomes))
+        Ok(CellParts {
+            lemmas,
+            entries,
+            closings: cubes.into_closings(),
+            outcomes,
+        })
     }
 }
 

@@ -5,8 +5,9 @@ ghost use Rattle.std.specs.Bool.{OnTrue};
 ghost use Rattle.lrat_text.specs.Lines.{IsOpen};
 ghost use Rattle.lrat_text.specs.Log.{Negates};
 ghost use Rattle.lrat_text.specs.Steps.{step_of};
+ghost use Rattle.lidrup.specs.Lidrup.{IsClosing, Negates as IsNegated};
 ghost use Rattle.weaving.specs.Woven.{ClosesAs, HasWoven, KeepsWoven};
-ghost use Rattle.weaving.specs.inner.Lines.{AppendsLine, IsNegated};
+ghost use Rattle.weaving.specs.inner.Lines.{AppendsLine};
 
 use dimacs::{Formula, Lit, has_literal};
 use itoa::Buffer;
@@ -168,5 +169,18 @@ impl CheckedText {
         }
         make_deletion(&mut self.made, self.checker.top(), numbers)?;
         append_made(&mut self.checker, &self.made, &mut self.out)
+    }
+
+    /// Tells whether a lemma of the text is live under this number, and closes the cube.
+    pub(crate) fn has_closing(&self, number: u64, cube: &[Lit]) -> bool
+        ensures { OnTrue result (IsClosing self.now.checker.base self.now.checker.live number cube.now) }
+    {
+        if number <= self.checker.base() {
+            return false;
+        }
+        match self.checker.clause(number) {
+            Some(clause) => is_negated(cube, clause),
+            None => false,
+        }
     }
 }

@@ -1,23 +1,28 @@
-//! What the lemma that closes the cube needs.
+//! What the lemmas that close the cubes need.
 
 use crate::lemma_table::LemmaTable;
 use std::alloc::{AllocError, Global};
 
-/// By lemma, 1 plus the number of the lemma that needs it last; 0 if none does. The lemma `closing` is needed by itself.
+/// The mark of a lemma that closes a cube: it is never deleted.
+const KEPT: u32 = u32::MAX;
+
+/// By lemma, 1 plus the number of the lemma that needs it last; 0 if none does. A lemma of `closings` has the mark `KEPT`.
 pub(crate) fn last_uses(
     alloc: Global,
     lemmas: &LemmaTable,
-    closing: u32,
+    closings: &[u32],
 ) -> Result<Vec<u32>, AllocError> {
     let mut uses: Vec<u32> = vec![in alloc; 0; lemmas.len()]?;
-    if let Some(last) = uses.get_mut(closing as usize) {
-        *last = closing.saturating_add(1);
+    for &closing in closings {
+        if let Some(last) = uses.get_mut(closing as usize) {
+            *last = KEPT;
+        }
     }
     for lemma in (0..lemmas.len()).rev() {
         if uses.get(lemma) == Some(&0) {
             continue;
         }
-        let user = (lemma as u64).saturating_add(1).min(0xFFFF_FFFF) as u32;
+        let user = (lemma as u64).saturating_add(1).min(0xFFFF_FFFE) as u32;
         note_uses(&mut uses, lemmas.hints_of(lemma), user);
     }
     Ok(uses)

@@ -1,6 +1,7 @@
 //! The numbers of the lemmas in the woven log.
 
 use crate::log_record::{Entry, entry_at};
+use crate::open_cubes::closing_of;
 use std::alloc::{AllocError, Global};
 
 /// The numbers of the lemmas, as far as they are written.
@@ -13,8 +14,10 @@ pub(crate) struct Numbering {
     uses: Vec<u32>,
     /// By lemma, its number in the woven log, from 1 behind the formula's; 0 if it is not written.
     given: Vec<u32>,
-    /// The lemma that closes the cube.
-    closing: u32,
+    /// By cube, the lemma that closes it.
+    closings: Vec<u32>,
+    /// The last one of these lemmas.
+    last: u32,
 }
 
 impl Drop for Numbering {
@@ -24,7 +27,8 @@ impl Drop for Numbering {
             entries: _,
             uses: _,
             given: _,
-            closing: _,
+            closings: _,
+            last: _,
         } = self;
     }
 }
@@ -36,7 +40,8 @@ impl Numbering {
         rows: u64,
         entries: Vec<Vec<u32>>,
         uses: Vec<u32>,
-        closing: u32,
+        closings: Vec<u32>,
+        last: u32,
     ) -> Result<Numbering, AllocError> {
         let given = vec![in alloc; 0; uses.len()]?;
         Ok(Numbering {
@@ -44,7 +49,8 @@ impl Numbering {
             entries,
             uses,
             given,
-            closing,
+            closings,
+            last,
         })
     }
 
@@ -66,9 +72,17 @@ impl Numbering {
         }
     }
 
-    /// Tells whether the lemma closes the cube.
-    pub(crate) fn is_closing(&self, lemma: u32) -> bool {
-        lemma == self.closing
+    /// Tells whether the lemma is the last one to close a cube.
+    pub(crate) fn is_last(&self, lemma: u32) -> bool {
+        lemma == self.last
+    }
+
+    /// Answers the number, in the woven log, of the lemma that closes a cube; 0 if there is none.
+    pub(crate) fn closing_number(&self, cube: usize) -> u64 {
+        match closing_of(&self.closings, cube) {
+            Some(lemma) => self.number_of(lemma),
+            None => 0,
+        }
     }
 
     /// The number of a lemma in the woven log.

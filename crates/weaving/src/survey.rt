@@ -1,14 +1,15 @@
-//! The first reading of the logs, by the clock, up to a lemma that closes the cube.
+//! The first reading of the logs, by the clock, until all cubes are closed.
 
 ghost use Rattle.std.specs.Prelude.{◌≤◌};
 
 use crate::cell::{CellLogs, LogSource};
-use crate::cell_record::{CellRecord, Taken};
+use crate::cell_record::{CellParts, CellRecord, Taken};
 use crate::clock_heap::ClockHeap;
 use crate::fault::WeaveFault;
 use crate::log_lines::{LogLines, open_all};
 use crate::needs::last_uses;
 use crate::numbering::Numbering;
+use crate::open_cubes::closing_of;
 use dimacs::{Formula, Lit};
 use lrat_text::{TextFault, log_top};
 use shared_lines::SharedLineBuffer;
@@ -34,7 +35,7 @@ pub(crate) struct Run {
     pub(crate) lines: u64,
 }
 
-/// How a log is to be woven that closes a cube.
+/// How a log is to be woven that closes cubes.
 pub struct Plan {
     /// The number of clauses of the formula.
     rows: u64,
@@ -46,8 +47,10 @@ pub struct Plan {
     entries: Vec<Vec<u32>>,
     /// By lemma, 1 plus the number of the lemma that needs it last; 0 if none does.
     uses: Vec<u32>,
-    /// The lemma that closes the cube.
-    closing: u32,
+    /// By cube, the lemma that closes it.
+    closings: Vec<u32>,
+    /// The last one of these lemmas.
+    last: u32,
     ghost low: { most ≤ 199999999 },
 }
 
@@ -59,7 +62,8 @@ impl Drop for Plan {
             runs: _,
             entries: _,
             uses: _,
-            closing: _,
+            closings: _,
+            last: _,
         } = self;
     }
 }
@@ -72,6 +76,21 @@ impl Plan {
         self.most
     }
 
+    /// Tells whether the log closes a cube.
+    pub fn closes(&self, cube: usize) -> bool {
+        closing_of(&self.closings, cube).is_some()
+    }
+
+    /// Answers the place of a cube that the last lemma of the log closes.
+    pub fn last(&self) -> usize {
+        for (i, &closing) in self.closings.iter().enumerate() {
+            if closing == self.last {
+                return i;
+            }
+        }
+        0
+    }
+
     /// Takes the plan apart: the order in which it takes lines, and the numbering before the first lemma.
     pub(crate) fn into_parts(self, alloc: Global) -> Result<(Vec<Run>, Numbering), AllocError> {
         let Plan {
@@ -80,9 +99,11 @@ impl Plan {
             runs,
             entries,
             uses,
-            closing,
+            closings,
+            last,
         } = self;
-        Ok((runs, Numbering::of(alloc, rows, entries, uses, closing)?))
+        let numbering = Numbering::of(alloc, rows, entries, uses, closings, last)?;
+        Ok((runs, numbering))
     }
 }
 
@@ -91,7 +112,7 @@ impl Plan {
 pub struct Survey {
     /// For each log, what was found of it.
     pub logs: Vec<LogOutcome>,
-    /// How a log is woven that closes the cube; `None` if no lemma does.
+    /// How a log is woven that closes cubes; `None` if none is closed.
     pub plan: Option<Plan>,
 }
 
@@ -102,8 +123,8 @@ enum Stop {
     Later,
     /// The log has no further line.
     Ended,
-    /// The last line is a lemma of this number, and closes the cube.
-    Closing(u32),
+    /// No cube is open.
+    Closed,
 }
 
 /// The first reading, between two lines.
@@ -111,6 +132,8 @@ struct Reading {
     /// The greatest variable that a line may have.
     most: u32,
     cell: CellRecord,
+    /// The last lemma that closes a cube; `None` if there is none yet.
+    last: Option<u32>,
     buffer: SharedLineBuffer,
     line: Vec<u8>,
     ghost low: { most ≤ 199999999 },
@@ -121,6 +144,7 @@ impl Drop for Reading {
         let Reading {
             most: _,
             cell: _,
+            last: _,
             buffer: _,
             line: _,
         } = self;
@@ -155,47 +179,53 @@ impl Reading {
             self.cell.count(log);
             match taken {
                 Taken::Later => return Ok((count + 1, Stop::Later)),
-                Taken::Closing(lemma) => return Ok((count + 1, Stop::Closing(lemma))),
+                Taken::Closing(lemma) => {
+                    self.last = Some(lemma);
+                    if !self.cell.any_open() {
+                        return Ok((count + 1, Stop::Closed));
+                    }
+                }
                 _ => {}
             }
         }
         Ok((0, Stop::Ended))
     }
 
-    /// Takes the lines of all logs by the clock, up to a lemma that closes the cube; `None` if none does.
+    /// Takes the lines of all logs by the clock, until no cube is open.
     fn take_all<S: LogSource + Drop>(
         &mut self,
         heap: &mut ClockHeap,
         logs: &mut [LogLines<S>],
         runs: &mut Vec<Run>,
-    ) -> Result<Option<u32>, WeaveFault> {
+    ) -> Result<(), WeaveFault> {
         for _ in 0..u64::MAX {
             let Some(log) = heap.pop() else {
-                return Ok(None);
+                break;
             };
             let Some(lines) = logs.get_mut(log) else {
-                return Ok(None);
+                break;
             };
             let (count, stop) = self.take_run(log, lines)?;
             runs.push(Run { log, lines: count })?;
             match stop {
                 Stop::Later => heap.push(self.cell.clock(log), log)?,
                 Stop::Ended => {}
-                Stop::Closing(lemma) => return Ok(Some(lemma)),
+                Stop::Closed => break,
             }
         }
-        Ok(None)
+        Ok(())
     }
 
     /// Ends the reading.
-    fn into_cell(self) -> CellRecord {
+    fn into_parts(self) -> (CellRecord, Option<u32>) {
         let Reading {
             most: _,
             cell,
+            last,
             buffer: _,
             line: _,
         } = self;
-        cell
+        (cell, last)
     }
 }
 
@@ -208,36 +238,45 @@ fn all_logs(alloc: Global, count: usize) -> Result<ClockHeap, AllocError> {
     Ok(heap)
 }
 
-/// Reads the logs of a cell over a formula, by the clock, up to a lemma that closes the cube: each of its literals is the negation of one
-/// of the cube's. A line that is none ends its log; an import that is not supported fails, and each lemma that rests on it is left out.
+/// Reads the logs of a cell over a formula, by the clock, until each of these cubes is closed: a lemma closes a cube if each of its literals
+/// is the negation of one of the cube's. A line that is none ends its log; an import that is not supported fails, and each lemma that rests
+/// on it is left out.
 pub fn survey_logs<L: CellLogs>(
     alloc: Global,
     formula: &Formula,
-    cube: &[Lit],
+    cubes: &[&[Lit]],
     logs: &L,
 ) -> Result<Survey, WeaveFault> {
     let rows = formula.len() as u64;
     let most = log_top(formula.as_base());
     let mut reading = Reading {
         most,
-        cell: CellRecord::of(alloc, rows, cube, logs)?,
+        cell: CellRecord::of(alloc, rows, cubes, logs)?,
+        last: None,
         buffer: SharedLineBuffer::new(alloc),
         line: Vec::new(alloc),
     };
     let mut runs = Vec::new(alloc);
     let mut lines = open_all(alloc, logs)?;
     let mut heap = all_logs(alloc, lines.len())?;
-    let closing = reading.take_all(&mut heap, &mut lines, &mut runs)?;
-    let (lemmas, entries, outcomes) = reading.into_cell().into_parts(alloc)?;
-    let plan = match closing {
+    reading.take_all(&mut heap, &mut lines, &mut runs)?;
+    let (cell, last) = reading.into_parts();
+    let CellParts {
+        lemmas,
+        entries,
+        closings,
+        outcomes,
+    } = cell.into_parts(alloc)?;
+    let plan = match last {
         None => None,
-        Some(closing) => Some(Plan {
+        Some(last) => Some(Plan {
             rows,
             most,
             runs,
             entries,
-            uses: last_uses(alloc, &lemmas, closing)?,
-            closing,
+            uses: last_uses(alloc, &lemmas, &closings)?,
+            closings,
+            last,
         }),
     };
     Ok(Survey {

@@ -1,7 +1,9 @@
 //! The second reading of the logs: the needed lemmas are written in the same order, and checked.
 
 ghost use Rattle.std.specs.Prelude.{◌≡◌, ◌++◌, ℕ, List, [], true, false, IfOk, OnOk};
+ghost use Rattle.std.specs.Bool.{OnTrue};
 ghost use Rattle.dimacs.specs.logic.Cnf.{Cnf};
+ghost use Rattle.lidrup.specs.CubeLog.{ClosesCube};
 ghost use Rattle.weaving.specs.Woven.{ClosesAs, HasWoven, KeepsWoven};
 
 use crate::cell::{CellLogs, LogSource};
@@ -104,21 +106,15 @@ fn weave_lemma(
     numbering.translate(read.log, lemma, foreign, hints, dead)?;
     numbering.give(lemma, text.next());
     let literals = literals_in(read.text);
-    match put_lemma(
-        text,
-        cube,
-        literals,
-        hints,
-        dead,
-        numbering.is_closing(lemma),
-    ) {
+    match put_lemma(text, cube, literals, hints, dead, numbering.is_last(lemma)) {
         Ok(closes) => Ok(closes),
         Err(fault) => Err(refused_line(fault, read.log, read.place)),
     }
 }
 
 impl<S: LogSource + Drop> Weaver<S> {
-    /// A weaver of the logs of a cell over the formula that has read no line of them again.
+    /// A weaver of the logs of a cell over the formula that has read no line of them again. `cube` is the one that the plan's last lemma
+    /// closes (`Plan::last`).
     pub fn of<L: CellLogs<Source = S>>(
         alloc: Global,
         formula: Formula,
@@ -176,6 +172,14 @@ impl<S: LogSource + Drop> Weaver<S> {
             }
         }
         Ok(true)
+    }
+
+    /// Tells whether the lemma that the plan has for the cube at a place closes this cube, and is live at the end of the text so far.
+    pub fn closes(&self, place: usize, cube: &[Lit]) -> bool
+        ensures { OnTrue result ((F : Cnf) (handed : List ℕ) → HasWoven F handed self.now.text → ClosesCube F cube.now (handed ++ self.now.text.out.items)) }
+    {
+        self.text
+            .has_closing(self.numbering.closing_number(place), cube)
     }
 
     /// Lends the bytes of the text that were written since the last call of `forget`.
