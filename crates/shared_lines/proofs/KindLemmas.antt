@@ -19,7 +19,8 @@ use Rattle.lrat_text.proofs.TokenLemmas.{front_more}
 use Rattle.shared_logs.specs.SharedText.{SpellsClock, SpellsImport, SpellsName}
 use Rattle.shared_lines.specs.Lines.{Line, Lemma, Deletion, Name, Import, Clock, SpellsLine, Gives}
 use Rattle.shared_lines.specs.declared.line_buffer.Kind.TheVariants as kind
-use Rattle.shared_lines.specs.inner.Held.{GivesTwo, HasTwoHints, line_held}
+use Rattle.shared_lines.specs.Buffers.{line_held}
+use Rattle.shared_lines.specs.inner.Steps.{GivesTwo, HasTwoHints}
 use Rattle.shared_lines.specs.inner.Words.{IsWord}
 use Rattle.shared_lines.proofs.ByteLemmas.{word_same}
 use Rattle.shared_lines.proofs.FieldLemmas.{clocks_once, name_parts, names_once}

@@ -4,7 +4,7 @@ use Rattle.lrat_text.specs.Grammar.{SpellsStepWithin}
 use Rattle.lrat_text.specs.declared.step.Step.{Step}
 use Rattle.lrat_text.specs.declared.step.Step.TheVariants.{Add}
 use Rattle.shared_lines.specs.Lines.{Offered, Offers}
-use Rattle.shared_lines.specs.inner.Held.{offer_held}
+use Rattle.shared_lines.specs.Buffers.{offer_held}
 use Rattle.shared_lines.specs.inner.Words.{IsWord}
 use Rattle.shared_lines.proofs.ByteLemmas.{decimal_is_word, decimal_none, same_number, word_same}
 use Rattle.shared_lines.proofs.FieldLemmas.{early}

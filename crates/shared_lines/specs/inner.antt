@@ -1,3 +1,3 @@
 -- What only private contracts, invariants and proofs name. Nothing here is to be believed.
-pub mod Held
+pub mod Steps
 pub mod Words

@@ -5,7 +5,7 @@ ghost use Rattle.lrat_text.specs.Grammar.{SpellsStepWithin};
 ghost use Rattle.lrat_text.specs.declared.step.Step.{Step};
 ghost use Rattle.lrat_text.specs.Steps.{step_of};
 ghost use Rattle.shared_lines.specs.Lines.{Deletion, Gives, Line, SpellsLine, line_of};
-ghost use Rattle.shared_lines.specs.inner.Held.{GivesTwo, HasNoGroup, HasTwoHints};
+ghost use Rattle.shared_lines.specs.inner.Steps.{GivesTwo, HasNoGroup, HasTwoHints};
 ghost use Rattle.shared_lines.specs.inner.Words.{IsWord};
 
 use crate::bytes::{after_prefix, cut_word};
@@ -51,7 +51,7 @@ impl Drop for SharedLineBuffer {
 
 impl Model for SharedLineBuffer {
     ghost use Rattle.shared_lines.specs.Lines.{Line};
-    ghost use Rattle.shared_lines.specs.inner.Held.{line_held};
+    ghost use Rattle.shared_lines.specs.Buffers.{line_held};
 
     ghost Value = { Line };
 

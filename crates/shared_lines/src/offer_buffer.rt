@@ -4,7 +4,7 @@ ghost use Rattle.std.specs.Prelude.{◌≡◌, ◌≢◌, ℕ, ◌≤◌, ◌^�
 ghost use Rattle.lrat_text.specs.Grammar.{SpellsStepWithin};
 ghost use Rattle.lrat_text.specs.Steps.{step_of};
 ghost use Rattle.lrat_text.specs.declared.step.Step.{Step};
-ghost use Rattle.shared_lines.specs.inner.Held.{IsBare};
+ghost use Rattle.shared_lines.specs.inner.Steps.{IsBare};
 ghost use Rattle.shared_lines.specs.Lines.{Gives, Offered, Offers, offer_of};
 
 use crate::bytes::{before_suffix, cut_word};
@@ -35,7 +35,7 @@ impl Drop for OfferBuffer {
 
 impl Model for OfferBuffer {
     ghost use Rattle.shared_lines.specs.Lines.{Offered};
-    ghost use Rattle.shared_lines.specs.inner.Held.{offer_held};
+    ghost use Rattle.shared_lines.specs.Buffers.{offer_held};
 
     ghost Value = { Offered };
 

@@ -1,7 +1,7 @@
 use Rattle.std.proofs.Common.{◌∙◌, List, ℕ, Ok, subst, sym}
 use Rattle.lrat_text.specs.Grammar.{SpellsStepWithin}
 use Rattle.lrat_text.specs.declared.step.Step.{Step}
-use Rattle.shared_lines.specs.inner.Held.{HasTwoHints}
+use Rattle.shared_lines.specs.inner.Steps.{HasTwoHints}
 use Rattle.shared_lines.proofs.KindLemmas.{gives_step, same_hints}
 use Rattle.shared_lines.proofs.line_buffer.read_import.Goals as goal
 

@@ -1,5 +1,5 @@
 use Rattle.std.proofs.Common.{◌∙◌, Ok, subst, sym}
-use Rattle.shared_lines.specs.inner.Held.{HasNoGroup}
+use Rattle.shared_lines.specs.inner.Steps.{HasNoGroup}
 use Rattle.shared_lines.proofs.KindLemmas.{gives_step}
 use Rattle.shared_lines.proofs.line_buffer.read_step.Goals as goal
 

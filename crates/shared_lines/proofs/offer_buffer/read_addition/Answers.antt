@@ -1,5 +1,5 @@
 use Rattle.std.proofs.Common.{◌∙◌, Ok, subst, sym}
-use Rattle.shared_lines.specs.inner.Held.{IsBare}
+use Rattle.shared_lines.specs.inner.Steps.{IsBare}
 use Rattle.shared_lines.proofs.KindLemmas.{gives_step}
 use Rattle.shared_lines.proofs.offer_buffer.read_addition.Goals as goal
 
