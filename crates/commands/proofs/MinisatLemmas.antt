@@ -1,14 +1,14 @@
 -- The lines of an assignment, joined, have its items, a space before each.
-use Rattle.std.specs.Prelude.{◌==◌, ◌≤◌, ℤ, nat_abs, nat_le, not, ◌&&◌}
+use Rattle.std.specs.Prelude.{◌≤◌, nat_abs, nat_le}
 use Rattle.std.specs.Fmt.{signed_decimal}
-use Rattle.std.specs.List.{AllByRecursion, filter}
+use Rattle.std.specs.List.{AllByRecursion}
 use Rattle.std.proofs.Common.{◌≡◌, ℕ, suc, zero, ◌+◌, ◌<◌, ◌^◌, Bool, true, false, List, [], ◌∷◌, ◌++◌, map, length, drop, codes, if◌then◌else◌, refl, sym, ◌∙◌, ap, subst, arith}
 use Rattle.std.proofs.lemmas.Bool.{ne_eqb}
 use Rattle.std.proofs.lemmas.List.Elements.{filter-append}
 use Rattle.commands.specs.Solver.{sat_text, spaced}
 use Rattle.commands.specs.inner.Solver.{is_of_item, joined}
 use Rattle.dimacs.specs.logic.Literal.{Literal, Pos, Neg, number_of}
-use Rattle.dimacs.specs.text.Answer.{filled, satisfied_lines, true_literals, witness_items, witness_lines}
+use Rattle.dimacs.specs.text.Answer.{filled, satisfied_lines, true_literals, witness_items}
 use Rattle.dimacs.proofs.WritingLemmas.{IsInk, text_ink}
 
 -- an item stays as it is

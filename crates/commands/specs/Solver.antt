@@ -1,13 +1,12 @@
 -- What a solver that other tools call tells of the file of a formula, and what it writes.
-use Rattle.std.specs.Prelude.{◌≡◌, ◌⊎◌, ◌==◌, not, ◌&&◌, ℕ, Bool, true, false, List, [], ◌∷◌, ◌++◌, drop, length, Option, codes, if◌then◌else◌}
+use Rattle.std.specs.Prelude.{◌≡◌, ◌⊎◌, ℕ, Bool, false, List, [], ◌∷◌, ◌++◌, drop, length, Option, codes, if◌then◌else◌}
 use Rattle.commands.specs.FormulaTree.{OfFormula, RefusesInput}
 use Rattle.commands.specs.Known.{HoldsOf}
 use Rattle.commands.specs.Refusals.{IsOneOf}
-use Rattle.commands.specs.Written.{Keeps}
 use Rattle.commands.specs.declared.minisat.MinisatFiles.{MinisatFiles}
 use Rattle.commands.specs.declared.solver.Solved.{Solved}
 use Rattle.commands.specs.declared.solver.SolverFiles.{SolverFiles}
-use Rattle.dimacs.specs.logic.Cnf.{Cnf, Sat, assignment_of}
+use Rattle.dimacs.specs.logic.Cnf.{Sat, assignment_of}
 use Rattle.dimacs.specs.logic.Limits.{Limits}
 use Rattle.dimacs.specs.text.Answer.{witness_items}
 use Rattle.formula_search.specs.Decisions.{Decides}
@@ -18,13 +17,16 @@ use Rattle.reports.specs.declared.refusal.Refusal.{Refusal}
 use Rattle.reports.specs.declared.refusal.Refusal.TheVariants.{Input, Writing}
 use Rattle.reports.specs.declared.report.Report.{Report}
 
--- what is asked of the search: no counts are printed
+-- what is asked of a search: no counts are printed
+abbrev pub asking : Option ℕ → Bool → Asked
+asking limit witness = record { limit = limit; witness = witness; stats = false }
+
 abbrev pub asked_of : SolverFiles → Asked
-asked_of files = record { limit = files.limit; witness = files.witness; stats = false }
+asked_of files = asking files.limit files.witness
 
 -- for MiniSat only the `s` line is printed
 abbrev pub asked_of_minisat : MinisatFiles → Asked
-asked_of_minisat files = record { limit = files.limit; witness = false; stats = false }
+asked_of_minisat files = asking files.limit false
 
 -- what is told of a packed input
 abbrev pub packed_text : List ℕ

@@ -1,13 +1,12 @@
 //! A solver that writes MiniSat's result in a file, as the callers of `minisat` expect.
 
-ghost use Rattle.std.specs.Prelude.{◌≡◌, ◌⊎◌, ◌≤◌, ℕ, Bool, false, true, List, Option, drop, length, IfOk, OnErr, OnOk};
+ghost use Rattle.std.specs.Prelude.{◌≡◌, ◌⊎◌, ◌≤◌, ℕ, Bool, false, true, List, Option, codes, drop, length, IfOk, OnErr, OnOk};
 ghost use Rattle.commands.specs.Known.{HoldsOf};
-ghost use Rattle.commands.specs.Solver.{GivesUp, HasResult, Solves, asked_of_minisat, no_result_text, sat_text};
+ghost use Rattle.commands.specs.Solver.{GivesUp, HasResult, Solves, asked_of_minisat, asking, no_result_text, sat_text};
 ghost use Rattle.commands.specs.Written.{Keeps};
 ghost use Rattle.commands.specs.inner.Solver.{IsWritten, joined as joined_text};
 ghost use Rattle.dimacs.specs.logic.Limits.{AreNoMore, Limits, large};
 ghost use Rattle.dimacs.specs.text.Answer.{satisfied_lines};
-ghost use Rattle.formula_search.specs.declared.decision.Asked.{Asked};
 ghost use Rattle.proof_check.specs.Truth.{IsTrueReport};
 
 use crate::atomic_write::write_text;
@@ -101,14 +100,23 @@ fn kept<D: SolverDisk>(
     }
 }
 
+/// Writes that there is no answer, if nothing but a result is replaced. A write that fails is ignored.
+fn write_unknown<D: SolverDisk>(disk: &mut D, path: &str, there: There)
+    ensures { (disk.new ≡ disk.old) ⊎ Keeps D.kept disk.old disk.new false path.now (codes "INDET\n") }
+{
+    if there == There::Result {
+        let _ = write_result(disk, path, b"INDET\n");
+    }
+}
+
 /// Writes MiniSat's result of an answer that has an assignment, and leaves its `s` line to be printed.
 fn satisfied<D: SolverDisk>(
     disk: &mut D,
     path: &str,
     mut solved: Solved,
 ) -> Result<Solved, AllocError>
-    ensures tells { (L : Limits) (asked : Asked) (known : Option (List ℕ)) → AreNoMore L large → asked.stats ≡ false → asked.witness ≡ true → solved.report.status ≡ 10
-        → Solves L asked known solved → IfOk result (IsWritten (Keeps D.kept disk.old disk.new false path.now) (disk.new ≡ disk.old) L asked known) }
+    ensures tells { (L : Limits) (limit : Option ℕ) (known : Option (List ℕ)) → AreNoMore L large → solved.report.status ≡ 10 → Solves L (asking limit true) known solved
+        → IfOk result (IsWritten (Keeps D.kept disk.old disk.new false path.now) (disk.new ≡ disk.old) L limit known) }
     ensures left { OnErr result (disk.new ≡ disk.old) }
 {
     let text = result_text(disk.alloc(), &solved.report.stdout)?;
@@ -123,20 +131,18 @@ fn with_result<D: SolverDisk>(
     there: There,
     solved: Solved,
 ) -> Result<Solved, AllocError>
-    ensures tells { (L : Limits) (asked : Asked) (known : Option (List ℕ)) → AreNoMore L large → asked.stats ≡ false → asked.witness ≡ true
-        → Solves L asked known solved → IfOk result (IsWritten (Keeps D.kept disk.old disk.new false path.now) (disk.new ≡ disk.old) L asked known) }
+    ensures tells { (L : Limits) (limit : Option ℕ) (known : Option (List ℕ)) → AreNoMore L large → Solves L (asking limit true) known solved
+        → IfOk result (IsWritten (Keeps D.kept disk.old disk.new false path.now) (disk.new ≡ disk.old) L limit known) }
     ensures left { OnErr result (disk.new ≡ disk.old) }
 {
-    match solved.report.status {
-        10 => satisfied(disk, path, solved),
-        20 => kept(disk, path, b"UNSAT\n", solved),
-        _ => {
-            if there == There::Result {
-                let _ = write_result(disk, path, b"INDET\n");
-            }
-            Ok(solved)
-        }
+    if solved.report.status == 10 {
+        return satisfied(disk, path, solved);
     }
+    if solved.report.status == 20 {
+        return kept(disk, path, b"UNSAT\n", solved);
+    }
+    write_unknown(disk, path, there);
+    Ok(solved)
 }
 
 /// Decides the formula in `files.input`, which is read within these limits, as `minisat` with a second file: before the `s` line is told,

@@ -123,17 +123,16 @@ pub(crate) fn decided<D: SolverDisk, O: Observer>(
         quiet: false,
     };
     match decide_files(disk, limits, &deciding, observer) {
-        Ok(
-            Report {
-                stdout,
-                status: 1,
-                ..
-            },
-        ) => unknown(disk, stdout),
-        Ok(report) => Ok(Solved {
-            told: Vec::new(disk.alloc()),
-            report,
-        }),
+        Ok(report) => {
+            if report.status == 1 {
+                let Report { stdout, .. } = report;
+                return unknown(disk, stdout);
+            }
+            Ok(Solved {
+                told: Vec::new(disk.alloc()),
+                report,
+            })
+        }
         Err(refusal) => unknown_by(disk, refusal),
     }
 }

@@ -1,10 +1,9 @@
 -- The bytes of an answer's lines that MiniSat's result has, and what is told beside a result.
 use Rattle.std.specs.Prelude.{◌==◌, ℕ, Bool, false, not, ◌&&◌, List, Option}
 use Rattle.std.specs.List.{filter}
-use Rattle.commands.specs.Solver.{HasResult, Solves}
+use Rattle.commands.specs.Solver.{HasResult, Solves, asking}
 use Rattle.commands.specs.declared.solver.Solved.{Solved}
 use Rattle.dimacs.specs.logic.Limits.{Limits}
-use Rattle.formula_search.specs.declared.decision.Asked.{Asked}
 
 -- a byte is neither an LF nor the `v` that begins a line
 abbrev pub is_of_item : ℕ → Bool
@@ -15,6 +14,6 @@ abbrev pub joined : List ℕ → List ℕ
 joined text = filter is_of_item text
 
 -- what is told beside MiniSat's result: the `s` line, and no assignment
-pub record IsWritten (keeps : List ℕ → Type 0) (left : Type 0) (L : Limits) (asked : Asked) (known : Option (List ℕ)) (s : Solved) : Type 0 where
-  pub solves : Solves L (record asked { witness = false }) known s
+pub record IsWritten (keeps : List ℕ → Type 0) (left : Type 0) (L : Limits) (limit : Option ℕ) (known : Option (List ℕ)) (s : Solved) : Type 0 where
+  pub solves : Solves L (asking limit false) known s
   pub result : HasResult keeps left L known s.report
