@@ -271,7 +271,7 @@ class Answers(Case):
         """Proofs and answers are kept whole, also of runs that print no values; each run tells how
         they are checked."""
         formulas = ["four_clauses.cnf", "random_100_sat.cnf", "schur_3_14.cnf"]
-        packed = ".zst" if shutil.which("zstd") else ""
+        packed = ".zst" if shutil.which("zstd") else ".gz" if shutil.which("gzip") else ""
         for words in ("--keep kept", "--keep=kept --jobs 2", "--keep kept -n"):
             self.env["SATCLUSTER_WORDS"] = words
             for name in formulas:
