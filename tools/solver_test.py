@@ -358,11 +358,13 @@ class Minisat(Case):
         end = self.decides(10, self.sat)
         self.assertTrue(satisfies(Path(self.sat).read_text(), end.lines))
 
-    @unittest.skipUnless(shutil.which("minisat"), "minisat is not installed")
     def test_beside_minisat(self) -> None:
+        minisat = client("minisat")
+        if minisat is None:
+            self.skipTest("minisat is not installed")
         for name in ("four_clauses", "pigeons_6", "random_100_sat", "schur_3_13", "sudoku_2"):
             formula = self.example(name + ".cnf")
-            theirs = subprocess.run(["minisat", "-verb=0", formula, self.at("theirs")],
+            theirs = subprocess.run([minisat, "-verb=0", formula, self.at("theirs")],
                                     stdout=subprocess.DEVNULL, stderr=subprocess.DEVNULL)
             self.assertEqual(theirs.returncode, self.answer("-verb=0", formula, "out").status)
             if theirs.returncode == 10:
@@ -370,7 +372,7 @@ class Minisat(Case):
                 self.is_model(self.text(), formula)
             else:
                 self.assertEqual(self.text("theirs"), self.text())
-        theirs = subprocess.run(["minisat", "-cpu-lim=1", self.at("long.cnf"), self.at("theirs")],
+        theirs = subprocess.run([minisat, "-cpu-lim=1", self.at("long.cnf"), self.at("theirs")],
                                 stdout=subprocess.DEVNULL, stderr=subprocess.DEVNULL)
         self.assertEqual(theirs.returncode, self.answer("-cpu-lim=1", "long.cnf", "out").status)
         self.assertEqual(self.text("theirs"), self.text())
