@@ -25,10 +25,10 @@ c -q: c lines are left out; -n: v lines are left out; --limit L: it ends after L
 c Words of CaDiCaL, Kissat and MiniSat are taken or passed over. docs/CLIENTS.md tells more.
 ";
 
-/// Whether the second file is named as standard output is not: by `-`.
+/// The line that tells that the second file is named by `-`.
 const NO_FILE: &[u8] = b"c the second file is written: `-` names none\n";
 
-/// The line of the words that only the script takes from the environment.
+/// The line that tells that the words in the environment are passed over.
 const ENVIRONMENT: &[u8] =
     b"c SATCLUSTER_WORDS is passed over: only the script satcluster-solver has it\n";
 
@@ -115,6 +115,14 @@ fn run<R: Runtime + AllocGlobal>(rt: &R, solving: &Solving<'_>, is_minisat: bool
     }
 }
 
+/// Whether the environment has words for the script.
+fn has_words_in_environment<R: Runtime + AllocGlobal>(rt: &R) -> bool {
+    match env::var(rt, "SATCLUSTER_WORDS") {
+        Ok(words) => !words.as_str().is_empty(),
+        Err(_) => false,
+    }
+}
+
 /// Runs as a solver that was called with these words, and answers the exit status.
 pub(crate) fn solver<R: Runtime + AllocGlobal>(rt: &R, call: SolverCall<'_>) -> u8 {
     let mut told = Vec::new(rt.alloc());
@@ -122,7 +130,7 @@ pub(crate) fn solver<R: Runtime + AllocGlobal>(rt: &R, call: SolverCall<'_>) -> 
         Ok(solving) => solving,
         Err(_) => return print_unknown(rt, false, b"c no memory\n"),
     };
-    if env::var(rt, "SATCLUSTER_WORDS").is_ok() {
+    if has_words_in_environment(rt) {
         tell(rt, solving.quiet, ENVIRONMENT);
     }
     tell(rt, solving.quiet, &told);
