@@ -26,6 +26,8 @@ from typing import Any, Callable, Dict, Iterator, List, NamedTuple, Optional, Se
 sys.dont_write_bytecode = True
 
 from cases import EXAMPLES, dimacs, opened, pigeons, run, satisfies
+from drop_in_solver.known import LEVEL, MINISAT, NAMES, PLAIN
+from drop_in_solver.words import LIMITS, NOT_DONE, PROOF_WORDS, SWITCHES, VALUED
 from explanations.looks import LARGE
 
 HERE = Path(__file__).resolve().parent
@@ -916,6 +918,24 @@ class Native(Case):
             self.run_solver("f.cnf")
             took.append(time.monotonic() - began)
         self.assertLess(min(took), 0.01)
+
+
+class Lists(unittest.TestCase):
+    """The words that are passed over stand twice: the installed script has no sources beside it."""
+
+    def test_same(self) -> None:
+        table = HERE.parent / "crates" / "command_line" / "src" / "solver_words" / "table.rt"
+        if not table.is_file():
+            self.skipTest("the sources are not here")
+        text = table.read_text()
+        for name, known in (("LONG_NAMES", NAMES), ("SHORT_NAMES", MINISAT)):
+            found = re.search(name + r": .*?\[\n(.*?)\];", text, re.S)
+            assert found
+            self.assertEqual(sorted(known), re.sub(r'[",]', " ", found.group(1)).split())
+        words = " ".join(re.findall('words: "(.*)",', text)).split()
+        theirs = PLAIN | {*VALUED, *SWITCHES, *PROOF_WORDS, *NOT_DONE, *LIMITS}
+        self.assertEqual(set(), theirs.difference(words))
+        self.assertTrue(all(word in theirs or LEVEL.fullmatch(word) for word in words))
 
 
 class Clients(Case):
