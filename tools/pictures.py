@@ -36,6 +36,7 @@ KINDS: Dict[str, Tuple[str, List[str]]] = {
         "coordinator_core", "evidence", "frames", "hmac"]),
     "search": ("#dff0d8", [
         "formula_search", "renumbered_logs", "elimination", "cube_solve", "incremental",
+        "cell_worker", "sharing",
         "conflict_analysis", "decide_heap", "watches", "clause_arena", "proof_trim"]),
     "splitting and joining": ("#f7f0c8", [
         "cube_split", "look_ahead", "icnf", "proof_join", "lrat_trim"]),
