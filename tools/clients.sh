@@ -1,8 +1,8 @@
 #!/usr/bin/env bash
-# Fetches CBMC, yosys, ABC and CaDiCaL's library as Debian packages of the unstable suite, with the C library that they
+# Fetches CBMC, MiniSat, yosys, ABC and CaDiCaL's library as Debian packages of the unstable suite, with the C library that they
 # want, and makes of them programs that run on this machine.
 #
-#     tools/clients.sh FOLDER      makes FOLDER/cbmc, FOLDER/yosys, FOLDER/yosys-abc
+#     tools/clients.sh FOLDER      makes FOLDER/cbmc, FOLDER/minisat, FOLDER/yosys, FOLDER/yosys-abc
 #     SATCLUSTER_CLIENTS=FOLDER tools/solver_test.py PATH-OF-satcluster Clients
 #
 # With g++ it makes FOLDER/satcluster.so and FOLDER/satcluster_session.so, too: yosys takes other
@@ -26,7 +26,7 @@ done
 for package in *.deb; do dpkg-deb -x "$package" all; done
 loader=$(readlink -f "$(find all -name ld-linux-x86-64.so.2 | head -1)")
 libraries=$to/all/usr/lib/x86_64-linux-gnu:$to/all/usr/lib
-for name in cbmc yosys yosys-abc; do
+for name in cbmc minisat yosys yosys-abc; do
     printf '#!/bin/sh\nexec %s --library-path %s --argv0 %s %s "$@"\n' \
         "$loader" "$libraries" "$to/$name" "$to/all/usr/bin/$name" > "$name"
     chmod +x "$name"

@@ -15,7 +15,7 @@ ROOT = Path(__file__).resolve().parent.parent
 SOURCES = ROOT / "crates" / "satcluster" / "src"
 ELSEWHERE = {"explain", "help", "read_cubes", "shown"}  # not on the way of `check INPUT PROOF`
 OTHERS = {"drafts", "elaboration_progress", "explain", "linked_runs", "listener", "progress",
-          "proof_file", "refute", "session", "cubes_complete", "identity"}
+          "proof_file", "refute", "session", "cubes_complete", "identity", "solver", "solver_disk"}
 
 
 class Function(NamedTuple):

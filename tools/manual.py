@@ -23,6 +23,9 @@ TOKEN = re.compile(r'''"(?:[^"\\]|\\.)*"|'.'|[\w:]+(?:!?\(| \{)?|&?[\[\](){},]''
 MADE = "tools/pages.py --man makes this of the tables of words in crates/command_line/src."
 MADE_OF_SCRIPT = "tools/pages.py --man makes this of what the script's parser knows."
 TOOLS = (
+    ("satcluster solver [WORDS] [FILE [PROOF]]",
+     "is satcluster itself as a SAT solver that other programs call. A link to satcluster that is"
+     " named cadical, kissat, minisat or satcluster-solver is one too: docs/CLIENTS.md."),
     ("satcluster-solver [WORDS] [FILE [PROOF]]",
      "stands where another program expects a SAT solver, and takes the words of CaDiCaL, Kissat and"
      " MiniSat: docs/CLIENTS.md."),

@@ -30,12 +30,13 @@ KINDS: Dict[str, Tuple[str, List[str]]] = {
         "satcluster"]),
     "leaves as files": ("#fbe5d0", [
         "leaves", "text_or_binary", "cubes_to_tree", "log_join", "receipts", "cover_laws",
-        "shared_logs", "proof_lift", "lidrup", "sessions", "answers"]),
+        "shared_logs", "shared_lines", "weaving", "proof_lift", "lidrup", "sessions", "answers"]),
     "machines and runs": ("#d8eaf7", [
         "runs", "event_loop", "links", "connections", "cluster", "honest_cluster", "worker_core",
         "coordinator_core", "evidence", "frames", "hmac"]),
     "search": ("#dff0d8", [
         "formula_search", "renumbered_logs", "elimination", "cube_solve", "incremental",
+        "cell_worker", "sharing",
         "conflict_analysis", "decide_heap", "watches", "clause_arena", "proof_trim"]),
     "splitting and joining": ("#f7f0c8", [
         "cube_split", "look_ahead", "icnf", "proof_join", "lrat_trim"]),

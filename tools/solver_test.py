@@ -26,6 +26,8 @@ from typing import Any, Callable, Dict, Iterator, List, NamedTuple, Optional, Se
 sys.dont_write_bytecode = True
 
 from cases import EXAMPLES, dimacs, opened, pigeons, run, satisfies
+from drop_in_solver.known import LEVEL, MINISAT, NAMES, PLAIN
+from drop_in_solver.words import LIMITS, NOT_DONE, PROOF_WORDS, SWITCHES, VALUED
 from explanations.looks import LARGE
 
 HERE = Path(__file__).resolve().parent
@@ -271,7 +273,7 @@ class Answers(Case):
         """Proofs and answers are kept whole, also of runs that print no values; each run tells how
         they are checked."""
         formulas = ["four_clauses.cnf", "random_100_sat.cnf", "schur_3_14.cnf"]
-        packed = ".zst" if shutil.which("zstd") else ""
+        packed = ".zst" if shutil.which("zstd") else ".gz" if shutil.which("gzip") else ""
         for words in ("--keep kept", "--keep=kept --jobs 2", "--keep kept -n"):
             self.env["SATCLUSTER_WORDS"] = words
             for name in formulas:
@@ -358,11 +360,13 @@ class Minisat(Case):
         end = self.decides(10, self.sat)
         self.assertTrue(satisfies(Path(self.sat).read_text(), end.lines))
 
-    @unittest.skipUnless(shutil.which("minisat"), "minisat is not installed")
     def test_beside_minisat(self) -> None:
+        minisat = client("minisat")
+        if minisat is None:
+            self.skipTest("minisat is not installed")
         for name in ("four_clauses", "pigeons_6", "random_100_sat", "schur_3_13", "sudoku_2"):
             formula = self.example(name + ".cnf")
-            theirs = subprocess.run(["minisat", "-verb=0", formula, self.at("theirs")],
+            theirs = subprocess.run([minisat, "-verb=0", formula, self.at("theirs")],
                                     stdout=subprocess.DEVNULL, stderr=subprocess.DEVNULL)
             self.assertEqual(theirs.returncode, self.answer("-verb=0", formula, "out").status)
             if theirs.returncode == 10:
@@ -370,7 +374,7 @@ class Minisat(Case):
                 self.is_model(self.text(), formula)
             else:
                 self.assertEqual(self.text("theirs"), self.text())
-        theirs = subprocess.run(["minisat", "-cpu-lim=1", self.at("long.cnf"), self.at("theirs")],
+        theirs = subprocess.run([minisat, "-cpu-lim=1", self.at("long.cnf"), self.at("theirs")],
                                 stdout=subprocess.DEVNULL, stderr=subprocess.DEVNULL)
         self.assertEqual(theirs.returncode, self.answer("-cpu-lim=1", "long.cnf", "out").status)
         self.assertEqual(self.text("theirs"), self.text())
@@ -760,6 +764,180 @@ def client(name: str) -> Optional[str]:
     return shutil.which(name, path=path)
 
 
+class Native(Case):
+    """The program itself as a solver: by its command, and by links that have solvers' names."""
+
+    def setUp(self) -> None:
+        super().setUp()
+        self.sat, self.unsat = (self.example("random_100_%s.cnf" % end) for end in ("sat", "unsat"))
+        self.call("kissat")
+
+    def call(self, name: str) -> None:
+        """From here on the program is called by a link of this name."""
+        if not os.path.lexists(self.at(name)):
+            (self.folder / name).symlink_to(self.program)
+        self.command = self.at(name)
+
+    def text(self, name: str = "out") -> str:
+        return Path(self.at(name)).read_text()
+
+    def told(self, why: str, status: int, *words: str) -> None:
+        """An answer behind one `c` line, which with -q is on standard error."""
+        end = self.decides(status, *words)
+        self.assertRegex(end.lines[0], why)
+        self.assertEqual(1, len([line for line in end.lines if line.startswith("c ")]), end)
+        quiet = self.answer("-q", *words)
+        self.assertEqual((status, end.lines[:1]), (quiet.status, quiet.errors), quiet)
+        self.assertEqual(end.lines[1:], quiet.lines)
+
+    def test_names(self) -> None:
+        for name in ("cadical", "kissat", "satcluster-solver"):
+            self.call(name)
+            self.decides(20, self.unsat, "f.lrat")
+            self.verifies(self.unsat, "f.lrat")
+            os.remove(self.at("f.lrat"))
+        for name in ("minisat", "minisat_static", "minisat_core", "minisat_release", "minisat2"):
+            self.call(name)
+            self.decides(20, self.unsat, name + ".out")
+            self.assertEqual("UNSAT\n", self.text(name + ".out"))
+        self.call("minisatx")  # no solver's name
+        self.decides(20, "solver", self.unsat, "f.lrat")
+        self.verifies(self.unsat, "f.lrat")
+        self.assertEqual(1, self.run_solver(self.unsat).status)
+        self.call("kissat")  # by which `solver` is a file
+        self.refuses("cannot read input", "solver", "f.lrat")
+
+    def test_answers(self) -> None:
+        end = self.decides(10, self.sat, "f.lrat")
+        self.assertTrue(satisfies(Path(self.sat).read_text(), end.lines))
+        self.assertEqual(["s SATISFIABLE"], self.decides(10, "-q", "-n", self.sat).lines)
+        self.assertEqual(["s SATISFIABLE"], self.decides(10, "--no-witness", self.sat).lines)
+        self.assertFalse(os.path.exists(self.at("f.lrat")))
+        for words in ([], ["-"], ["/dev/stdin"], ["-", "f.lrat"], ["--", "-", "f.lrat"]):
+            self.decides(20, *words, given=Path(self.unsat).read_bytes())
+        self.verifies(self.unsat, "f.lrat")
+        self.assertEqual(["s UNKNOWN"], self.decides(0, "--limit", "1", self.unsat).lines)
+        self.assertEqual(["s UNKNOWN"], self.decides(0, "--limit=1", self.unsat).lines)
+        self.write("-f.cnf", "p cnf 1 1\n1 0\n")
+        self.assertEqual(["s SATISFIABLE", "v 1 0"], self.decides(10, "--", "-f.cnf").lines)
+
+    def test_words_of_others(self) -> None:
+        for words in ("-q -q", "-n -n", "--quiet --no-witness", "-v -v -f -s", "--sat",
+                      "--unsat --plain", "--seed=7", "--no-elim", "--restartint=50 -P2",
+                      "-verb=0 -no-pre -rnd-seed=9", "--no-binary", "--lrat", "--chrono=true",
+                      "--quiet=0 --no-quiet", "--help=no"):
+            for line in (words.split() + [self.unsat], [self.unsat] + words.split()):
+                self.assertEqual(["s UNSATISFIABLE"], self.decides(20, *line).lines, line)
+
+    def test_words_that_are_told(self) -> None:
+        for words in ("--odd", "-c 5", "-w out", "--conflicts=3", "-t 5", "--time=5", "-cpu-lim=5",
+                      "--depth 3", "--jobs 2", "--keep kept", "--program=none", "--limit=0",
+                      "--binary", "--veripb"):
+            self.told("^c %s is passed over: " % words.split()[0], 20, *words.split(), self.unsat)
+        self.told("^c x5 is passed over: a limit is", 20, "--limit", "x5", self.unsat)
+        self.told("^c g.cnf is passed over: two files", 20, self.unsat, "f.lrat", "g.cnf")
+        self.told("^c --x.s SATISFIABLE.. is passed over", 20, "--x\ns SATISFIABLE\xe9", self.unsat)
+        self.env["SATCLUSTER_WORDS"] = "--limit 1"
+        self.told("^c SATCLUSTER_WORDS is passed over: only the script", 20, self.unsat)
+
+    def test_refusals(self) -> None:
+        self.write("bad.cnf", BAD)
+        for name in ("kissat", "minisat"):
+            self.call(name)
+            self.refuses("c input line 2 fault 4", "bad.cnf", "out")
+            self.refuses("c input line 2 fault 4", given=BAD.encode())
+            self.refuses("c cannot read input", "none.cnf")
+            self.refuses("c cannot read input", ".")
+            self.refuses("is a formula: it is not written over", self.unsat, "bad.cnf")
+            self.refuses("`-` names none", self.unsat, "-")
+            self.refuses("c cannot write (proof|result)", self.unsat, "none/out")
+            self.refuses("c cannot write (proof|result)", self.unsat, "tmp")
+        self.assertEqual(BAD, self.text("bad.cnf"))
+        for word in ("--help", "-h", "--version"):
+            self.assertEqual("s UNKNOWN", self.answer(word).lines[-1])
+        for name in ("none\ns UNSATISFIABLE", "s UNSATISFIABLE\n", "none\rs SATISFIABLE\n"):
+            self.assertEqual(0, self.answer(name).status)
+            self.assertEqual(0, self.answer(name, name + "/proof").status)
+
+    def test_packed(self) -> None:
+        for tool in ("gzip", "xz", "bzip2", "zstd"):
+            if not shutil.which(tool):
+                continue
+            packed = subprocess.run([tool, "-c", self.unsat], stdout=subprocess.PIPE).stdout
+            (self.folder / "f.packed").write_bytes(packed)
+            self.refuses("tools/satcluster-solver", "f.packed")
+            self.refuses("tools/satcluster-solver", given=packed)
+
+    def test_result(self) -> None:
+        self.call("minisat")
+        self.decides(20, "-verb=0", self.unsat, "out")
+        self.assertEqual("UNSAT\n", self.text())
+        for more in ([], ["-n"]):
+            end = self.decides(10, *more, self.sat, "out")
+            self.assertEqual(["s SATISFIABLE"], end.lines)  # the model is in the file alone
+            first, model, rest = self.text().split("\n")
+            self.assertEqual(("SAT", ""), (first, rest))
+            self.assertTrue(satisfies(Path(self.sat).read_text(), ["v " + model]))
+        self.write("out", "notes\n")  # which an answer replaces, as it does for MiniSat
+        self.decides(10, "-", "out", given=b"p cnf 3 1\n-2 0\n")
+        self.assertRegex(self.text(), "^SAT\n-?1 -2 -?3 0\n$")
+        self.assertEqual(["out"], [path.name for path in self.folder.glob("out*")])
+
+    def test_no_answer(self) -> None:
+        """An older result is not left there, and what is none is not lost."""
+        self.call("minisat")
+        self.write("bad.cnf", BAD)
+        for line in ("--limit 1 " + self.unsat, "bad.cnf", "none.cnf"):
+            for stood, stands in (("UNSAT\n", "INDET\n"), ("SAT\n1 0\n", "INDET\n"),
+                                  ("", "INDET\n"), ("notes\n", "notes\n")):
+                self.write("out", stood)
+                end = self.answer(*line.split(), "out")
+                self.assertEqual((0, stands), (end.status, self.text()), (line, stood))
+
+    def test_beside_minisat(self) -> None:
+        minisat = client("minisat")
+        if minisat is None:
+            self.skipTest("minisat is not installed")
+        self.call("minisat")
+        for name in ("four_clauses", "pigeons_6", "random_100_sat", "schur_3_13", "sudoku_2"):
+            formula = self.example(name + ".cnf")
+            theirs = subprocess.run([minisat, "-verb=0", formula, self.at("theirs")],
+                                    stdout=subprocess.DEVNULL, stderr=subprocess.DEVNULL)
+            self.assertEqual(theirs.returncode, self.answer("-verb=0", formula, "out").status)
+            theirs_lines, lines = (self.text(name).split("\n") for name in ("theirs", "out"))
+            self.assertEqual(theirs_lines[0], lines[0])
+            self.assertEqual([len(line.split(" ")) for line in theirs_lines],
+                             [len(line.split(" ")) for line in lines])
+
+    def test_start(self) -> None:
+        """Within 10 ms. The fastest of many runs counts, since a machine may be loaded."""
+        self.write("f.cnf", "p cnf 1 1\n1 0\n")
+        took = []
+        for _ in range(50):
+            began = time.monotonic()
+            self.run_solver("f.cnf")
+            took.append(time.monotonic() - began)
+        self.assertLess(min(took), 0.01)
+
+
+class Lists(unittest.TestCase):
+    """The words that are passed over stand twice: the installed script has no sources beside it."""
+
+    def test_same(self) -> None:
+        table = HERE.parent / "crates" / "command_line" / "src" / "solver_words" / "table.rt"
+        if not table.is_file():
+            self.skipTest("the sources are not here")
+        text = table.read_text()
+        for name, known in (("LONG_NAMES", NAMES), ("SHORT_NAMES", MINISAT)):
+            found = re.search(name + r": .*?\[\n(.*?)\];", text, re.S)
+            assert found
+            self.assertEqual(sorted(known), re.sub(r'[",]', " ", found.group(1)).split())
+        words = " ".join(re.findall('words: "(.*)",', text)).split()
+        theirs = PLAIN | {*VALUED, *SWITCHES, *PROOF_WORDS, *NOT_DONE, *LIMITS}
+        self.assertEqual(set(), theirs.difference(words))
+        self.assertTrue(all(word in theirs or LEVEL.fullmatch(word) for word in words))
+
+
 class Clients(Case):
     """CBMC, yosys and ABC, with the proved program as their solver."""
 
@@ -813,6 +991,25 @@ class Clients(Case):
             self.assertIn("VERIFICATION FAILED", told)
             told = self.refused(*words, "right.c")
             self.assertIn("VERIFICATION ERROR", told)
+
+    def test_native(self) -> None:
+        """CBMC and ABC call the program itself by links."""
+        cbmc, abc = client("cbmc"), client("yosys-abc") or client("abc")
+        if cbmc is None or abc is None:
+            self.skipTest("CBMC or ABC is not installed")
+        line = '%s solver "$@" > said; status=$?; cat said; grep "^s" said >> %s; exit $status\n'
+        solver = self.script("bin/kissat", line % (self.program, self.at("answers")))
+        self.write("right.c", SORTS % "> next")
+        self.write("wrong.c", SORTS % ">= next + 1 && at > 1")
+        words = [cbmc, "--unwind", "4", "--external-sat-solver", solver]
+        told = self.printed("UNSATISFIABLE", *words, "right.c")
+        self.assertIn("VERIFICATION SUCCESSFUL", told)
+        told = self.printed("SATISFIABLE UNSATISFIABLE", *words, "wrong.c")
+        self.assertIn("VERIFICATION FAILED", told)
+        told = self.printed("SATISFIABLE", abc, "-q", "twoexact -I 3 -N 2 -k 96")
+        self.assertIn("Verification successful", told)
+        told = self.printed("UNSATISFIABLE", abc, "-q", "twoexact -I 3 -N 2 -k -v 68")
+        self.assertIn("The problem has no solution", told)
 
     def test_yosys(self) -> None:
         yosys, plugin = self.wanted("yosys"), client("satcluster.so")

@@ -258,8 +258,8 @@ PROOF is an LRAT proof as text. Answers: s SATISFIABLE (10), s UNSATISFIABLE (20
 Called as minisat, by a link, it writes MiniSat's result in the place of PROOF.
 -q no c lines; -n no v lines; -t N or --time=N ends it after N seconds; --jobs N on N cores;
 --limit L ends it after L lemmas; --depth D splits; --program PATH the proved program.
---keep FOLDER keeps each formula that was decided, N.cnf, and its N.lrat (binary; .zst if zstd is
-there) or N.answer, and tells how to check them.
+--keep FOLDER keeps each formula that was decided, N.cnf, and its N.lrat (binary; packed by zstd or
+gzip) or N.answer, and tells how to check them.
 Words of CaDiCaL, Kissat and MiniSat are taken or passed over; docs/CLIENTS.md tells more."""
 
 

@@ -8,10 +8,15 @@ from typing import Iterator
 from drop_in_solver.sources import Source, spooled
 
 
+# What packs a proof: the first of these programs that is installed. Both save six bytes of ten of a
+# long binary proof; zstd takes a fifth of the time.
+PACKERS = (("zstd", ".zst", ["-q", "--rm"]), ("gzip", ".gz", []))
+
+
 class KeptFiles:
     """The files N.cnf, and N.lrat or N.answer, in a folder; N is the next number that is free. The
-    program reads N.cnf, so that the proof is one of that file. The proof is binary, and packed as
-    N.lrat.zst where zstd is installed."""
+    program reads N.cnf, so that the proof is one of that file. The proof is binary, and packed if
+    a packer is installed."""
 
     def __init__(self, folder: str) -> None:
         os.makedirs(folder, exist_ok=True)
@@ -33,17 +38,19 @@ class KeptFiles:
 
     def pack(self) -> None:
         """Packs the proof, if it is there. Whatever fails, it stays as it is."""
-        if shutil.which("zstd") and os.path.isfile(self.proof()):
-            subprocess.run(["zstd", "-q", "--rm", self.proof()], stdin=subprocess.DEVNULL,
-                           stdout=subprocess.DEVNULL, stderr=subprocess.DEVNULL, check=False)
+        tools = [[tool, *words] for tool, _, words in PACKERS if shutil.which(tool)]
+        if tools and os.path.isfile(self.proof()):
+            subprocess.run([*tools[0], self.proof()], stdin=subprocess.DEVNULL, check=False,
+                           stdout=subprocess.DEVNULL, stderr=subprocess.DEVNULL)
 
     def how_to_check(self, status: int) -> str:
         """The command that checks what was kept."""
         formula, proof = self.stem + ".cnf", self.proof()
         if status == 10:
             return "satcluster model %s %s.answer" % (formula, self.stem)
-        if os.path.exists(proof + ".zst"):
-            return "zstd -dcq %s.zst | satcluster check %s -" % (proof, formula)
+        for tool, end, _ in PACKERS:
+            if os.path.exists(proof + end):
+                return "%s -dcq %s%s | satcluster check %s -" % (tool, proof, end, formula)
         return "satcluster check %s %s" % (formula, proof)
 
     def drop(self) -> None:

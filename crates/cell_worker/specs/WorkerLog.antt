@@ -62,49 +62,48 @@ IfLimit (turn.Satisfied values) P = Unit {0}
 IfLimit (turn.Closed number) P = Unit {0}
 IfLimit turn.Limit P = P
 
-module _ {P : Type 0} where
-  -- how many variables the formula has
-  abbrev pub vars_in : CellWorker P → ℕ
-  vars_in w = vars_of w.search
+-- how many variables the formula has
+abbrev pub vars_in : {P : Type 0} → CellWorker P → ℕ
+vars_in w = vars_of w.search
 
-  -- the last number that the log gave
-  abbrev pub last_in : CellWorker P → ℕ
-  last_in w = last_of w.search
+-- the last number that the log gave
+abbrev pub last_in : {P : Type 0} → CellWorker P → ℕ
+last_in w = last_of w.search
 
-  -- the time by the log's clock
-  abbrev pub clock_in : CellWorker P → ℕ
-  clock_in w = w.clock
+-- the time by the log's clock
+abbrev pub clock_in : {P : Type 0} → CellWorker P → ℕ
+clock_in w = w.clock
 
-  -- the numbers from 1 to this one stand for names
-  abbrev pub names_in : CellWorker P → ℕ
-  names_in w = w.names
+-- the numbers from 1 to this one stand for names
+abbrev pub names_in : {P : Type 0} → CellWorker P → ℕ
+names_in w = w.names
 
-  -- the invariant of a worker between two calls
-  abbrev pub IsWorkerReady : (P → Clauses → TrailValue → Type 0) → (P → List ℕ) → CellWorker P → Type 0
-  IsWorkerReady is_ready attached w = IsReady is_ready attached w.search
+-- the invariant of a worker between two calls
+abbrev pub IsWorkerReady : {P : Type 0} → (P → Clauses → TrailValue → Type 0) → (P → List ℕ) → CellWorker P → Type 0
+IsWorkerReady is_ready attached w = IsReady is_ready attached w.search
 
-  -- formula, names, steps, bytes that are already handed out, the worker: with the bytes not handed out yet these are the text of a log with
-  -- imports, and the worker is where that log ends
-  pub record HasWritten (F : Cnf) (names : Names) (steps : List SharedStep) (text : List ℕ) (w : CellWorker P) : Type 0 where
-    pub is_text : IsSharedText F names steps (text ++ w.log.items)
-    pub vars : vars_in w ≡ F.vars
-    pub last : (log_state F steps).last ≡ last_in w
-    pub clock : (log_state F steps).clock ≡ clock_in w
-    pub used : All (λ x. x.0 ≤ names_in w) names
-    pub told : log_of w.search ≡ []
-    pub given : List ℕ
-    pub first : (n : ℕ) → n ≤ length F.clauses → Contains given n
-    pub known : IsKnown given (log_state F steps).live w.search
+-- formula, names, steps, bytes that are already handed out, the worker: with the bytes not handed out yet these are the text of a log with
+-- imports, and the worker is where that log ends
+pub record HasWritten {P : Type 0} (F : Cnf) (names : Names) (steps : List SharedStep) (text : List ℕ) (w : CellWorker P) : Type 0 where
+  pub is_text : IsSharedText F names steps (text ++ w.log.items)
+  pub vars : vars_in w ≡ F.vars
+  pub last : (log_state F steps).last ≡ last_in w
+  pub clock : (log_state F steps).clock ≡ clock_in w
+  pub used : All (λ x. x.0 ≤ names_in w) names
+  pub told : log_of w.search ≡ []
+  pub given : List ℕ
+  pub first : (n : ℕ) → n ≤ length F.clauses → Contains given n
+  pub known : IsKnown given (log_state F steps).live w.search
 
-  -- a turn wrote lemmas and deletions behind these steps, and its end is right
-  pub record HasTurned (F : Cnf) (names : Names) (steps : List SharedStep) (text : List ℕ) (query : Cube) (end_ : Turn) (w : CellWorker P) : Type 0 where
-    pub lines : List SharedStep
-    pub own : All IsOwn lines
-    pub right : IsRightTurn F query lines end_
-    pub written : HasWritten F names (steps ++ lines) text w
+-- a turn wrote lemmas and deletions behind these steps, and its end is right
+pub record HasTurned {P : Type 0} (F : Cnf) (names : Names) (steps : List SharedStep) (text : List ℕ) (query : Cube) (end_ : Turn) (w : CellWorker P) : Type 0 where
+  pub lines : List SharedStep
+  pub own : All IsOwn lines
+  pub right : IsRightTurn F query lines end_
+  pub written : HasWritten F names (steps ++ lines) text w
 
-  -- imports were written behind what the worker `old` had written, if each number up to the last one that it gave stands for a name
-  abbrev pub TakesOver : CellWorker P → CellWorker P → Type 0
-  TakesOver old new =
-      (F : Cnf) (names : Names) (steps : List SharedStep) (text : List ℕ) → HasWritten F names steps text old → AreNamed names (names_in old)
-      → (lines : List SharedStep) × All IsImport lines × HasWritten F names (steps ++ lines) text new
+-- imports were written behind what the worker `old` had written, if each number up to the last one that it gave stands for a name
+abbrev pub TakesOver : {P : Type 0} → CellWorker P → CellWorker P → Type 0
+TakesOver old new =
+    (F : Cnf) (names : Names) (steps : List SharedStep) (text : List ℕ) → HasWritten F names steps text old → AreNamed names (names_in old)
+    → (lines : List SharedStep) × All IsImport lines × HasWritten F names (steps ++ lines) text new

@@ -128,6 +128,13 @@ impl<'a, P: Propagator> CellWorker<'a, P> {
         Ok(self.names)
     }
 
+    /// The last number that was given to a name.
+    pub fn names(&self) -> u64
+        ensures { result ≡ names_in self.now }
+    {
+        self.names
+    }
+
     /// Moves the clock to one more than its time and `read`, the greatest time that was read of other logs. Answers false, and nothing
     /// changes, if that is above 2^40.
     pub fn advance(&mut self, read: u64) -> Result<bool, AllocError>

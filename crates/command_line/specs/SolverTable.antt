@@ -5,7 +5,6 @@ use Rattle.std.specs.Cmp.Lexicographic.{pointwise}
 use Rattle.clap.specs.Words.{Text}
 use Rattle.command_line.specs.declared.solver_words.table.Meaning.{Meaning}
 use Rattle.command_line.specs.declared.solver_words.table.Meaning.TheVariants.{Help, Known, Limit, Quiet, Told, Valued, Witness}
-use Rattle.command_line.specs.declared.solver_words.table.Row.{Row}
 use Rattle.command_line.specs.declared.solver_words.table.Why.TheVariants.{Counts, Files, Format, Output, Script, Solution, Time, Unknown}
 
 -- whether two words are the same
@@ -105,10 +104,6 @@ abbrev pub is_known : Text → Bool
 is_known word =
     is_listed_behind (codes "--") long_names word || is_listed_behind (codes "--no-") long_names word
     || is_listed_behind (codes "-") short_names word || is_listed_behind (codes "-no-") short_names word
-
--- a row of the table
-abbrev pub row_of : Row → Text × Meaning
-row_of row = (row.words.now, row.meaning)
 
 -- what a word asks for by the first of these rows that has it
 abbrev pub meaning_in : List (Text × Meaning) → Text → Option Meaning

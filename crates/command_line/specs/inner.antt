@@ -1,2 +1,3 @@
 -- What only private contracts, invariants and proofs name. Nothing here is to be believed.
 pub mod Refusals
+pub mod SolverRows

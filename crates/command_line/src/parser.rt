@@ -21,12 +21,13 @@ use std::alloc::{AllocError, Global};
 /// The version of the program, and the kits that prove it.
 const VERSION: &str = "0.1.0 (rattle-kit-13b or 13f, logic dac8208d650f15bf)";
 
-/// What help says of the program, with three examples.
+/// What help says of the program, with examples.
 const ABOUT: &str = concat!(
     "Decides propositional formulas, with proofs that anyone can check\n\n",
     "  satcluster decide f.cnf f.lrat   decide f.cnf; a proof is written if nothing satisfies it\n",
     "  satcluster check f.cnf f.lrat    check the proof of any solver\n",
-    "  satcluster model f.cnf answer    check the assignment that a solver printed",
+    "  satcluster model f.cnf answer    check the assignment that a solver printed\n",
+    "  satcluster solver f.cnf          decide f.cnf, by the words of other solvers",
 );
 
 /// Parses the words of a command line by the program's rules; the first word is the program's name.

@@ -37,11 +37,11 @@ apart e (inl l) = omega (arith, e, l)
 apart e (inr l) = omega (arith, e, l)
 
 -- a report of another status says nothing of satisfying assignments
-other_true : (L : Limits) (input : List ℕ) (r : Report) (status : ℕ) → r.status ≡ status → status < 10 → IsTrueReport L input r
+pub other_true : (L : Limits) (input : List ℕ) (r : Report) (status : ℕ) → r.status ≡ status → status < 10 → IsTrueReport L input r
 other_true L input r status is low =
     record { satisfiable = λ e. absurd (apart (sym is ∙ e) (inl (omega (arith, low)))); unsatisfiable = λ e. absurd (apart (sym is ∙ e) (inl (omega (arith, low)))) }
 
-formula_true : Soundness → (L : Limits) (input : List ℕ) (F : Cnf) → SpellsWithin L input F → (a : Asked) (r : Report) → Decides F a r → IsTrueReport L input r
+pub formula_true : Soundness → (L : Limits) (input : List ℕ) (F : Cnf) → SpellsWithin L input F → (a : Asked) (r : Report) → Decides F a r → IsTrueReport L input r
 formula_true sound L input F spells a r (inl is) =
     record { satisfiable = λ e. (F, spells, assignment_of is.values, is.satisfies); unsatisfiable = λ e. absurd (apart (sym is.status ∙ e) (inl (omega arith))) }
 formula_true sound L input F spells a r (inr (inl is)) =

@@ -17,12 +17,14 @@ mod LiftDratLemmas
 mod LineLemmas
 mod ListedLemmas
 mod ListingLemmas
+mod MinisatLemmas
 mod ModelLemmas
 mod NextLemmas
 mod OfLemmas
 mod PartLemmas
 mod ReceiptLemmas
 mod SessionLemmas
+mod SolverLemmas
 mod TextLemmas
 mod TreeLemmas
 mod TrimLemmas

@@ -15,6 +15,7 @@ pub mod Receipts
 pub mod Refusals
 pub mod SessionLines
 pub mod SessionMoments
+pub mod Solver
 pub mod Model
 pub mod Trees
 pub mod Trim

@@ -1,4 +1,5 @@
 pub mod SessionLoop
+pub mod Solver
 pub mod FormulaTree
 pub mod Cover
 pub mod Elaborate

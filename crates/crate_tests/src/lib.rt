@@ -58,6 +58,8 @@ mod proof_trim_fragments;
 #[cfg(test)]
 mod runs_splits;
 #[cfg(test)]
+mod shared_lines_read;
+#[cfg(test)]
 mod told;
 #[cfg(test)]
 mod trimming_proofs;
@@ -65,5 +67,7 @@ mod trimming_proofs;
 mod watches_propagators;
 #[cfg(test)]
 mod watches_trail;
+#[cfg(test)]
+mod weaving_cells;
 #[cfg(test)]
 mod worker_core_frames;

@@ -16,7 +16,7 @@ mod table;
 
 pub use asked::{Asked, Explaining};
 pub use lines::{Fault, File, Unit, is_of_clause, unread_number};
-pub use looks::{Look, look_of};
+pub use looks::{Look, look_of, packing_of};
 pub use names::{in_command, shown};
 pub use other_lines::Other;
 pub use reasons::Reason;

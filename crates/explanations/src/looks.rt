@@ -124,7 +124,7 @@ impl Look {
 }
 
 /// The packing of a file, by its first bytes; None if it is none of the four.
-fn packing_of(head: &[u8]) -> Option<Look>
+pub fn packing_of(head: &[u8]) -> Option<Look>
     ensures { result ≡ packing head.now }
 {
     if head.starts_with(b"\x1f\x8b") {

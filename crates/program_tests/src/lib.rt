@@ -41,3 +41,5 @@ mod solve_defined;
 mod solve_profile;
 #[cfg(test)]
 mod solve_split;
+#[cfg(test)]
+mod solver_words;

@@ -1,5 +1,8 @@
 //! The files that a command line names: `commands::Disk` over the operating system, and readers of whole files.
 
+ghost use Rattle.std.specs.Prelude.{IfErr};
+ghost use Rattle.commands.specs.Refusals.{IsRefusedAs};
+
 use crate::standard_input::is_dash;
 use commands::{Disk, Pieces, read_bytes, refused};
 use dimacs::{DimacsFault, Formula, Limits};
@@ -38,19 +41,29 @@ impl<R: Runtime + AllocGlobal> Disk for Machine<'_, R> {
 
     /// Opens the file at a path, and notes whether it is a regular one, which has an end.
     fn open(&self, path: &str, refusal: Refusal) -> Result<Pieces<R::File>, Refusal> {
-        let file = match File::open(self.rt, path_of(path)) {
-            Ok(file) => file,
-            Err(error) => return Err(refused(error, refusal)),
-        };
-        // A pipe, a terminal or a device may have no end.
-        let has_end = match file.metadata() {
-            Ok(metadata) => metadata.is_file(),
-            Err(_) => false,
-        };
+        let (file, has_end) = self.opened(path, refusal)?;
         match Pieces::of(self.rt.alloc(), file, has_end, refusal) {
             Ok(pieces) => Ok(pieces),
             Err(_) => Err(Refusal::NoMemory),
         }
+    }
+}
+
+impl<R: Runtime + AllocGlobal> Machine<'_, R> {
+    /// Opens the file at a path, and answers whether it is a regular one, which has an end; a pipe, a terminal or a device may have none.
+    /// The error is out of memory, or else `refusal`.
+    pub(crate) fn opened(&self, path: &str, refusal: Refusal) -> Result<(R::File, bool), Refusal>
+        ensures { IfErr result (IsRefusedAs refusal) }
+    {
+        let file = match File::open(self.rt, path_of(path)) {
+            Ok(file) => file,
+            Err(error) => return Err(refused(error, refusal)),
+        };
+        let has_end = match file.metadata() {
+            Ok(metadata) => metadata.is_file(),
+            Err(_) => false,
+        };
+        Ok((file, has_end))
     }
 }
 

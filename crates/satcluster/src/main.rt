@@ -18,9 +18,12 @@ mod proof_file;
 mod refute;
 mod search_progress;
 mod session;
+mod solver;
+mod solver_disk;
 mod standard_input;
 mod status_line;
 
+use command_line::solver_call;
 use commands::{
     CoverFiles, Deciding, JoinFiles, JoinOptions, LiftFiles, Lifted, ReceiptFiles, Target,
     TrimFiles, check_files, check_session_files, cover_files, deliver, join_files, leaf_files,
@@ -43,6 +46,7 @@ use node_main::{
 use refute::{LeafFiles, LeafRange, refute};
 use search_progress::decide;
 use session::{SessionFiles, session};
+use solver::solver;
 use standard_input::is_sound;
 use status_line::Showing;
 use std::alloc::AllocError;
@@ -463,13 +467,16 @@ fn run<R: Runtime + AllocGlobal + Net>(
     Ok(status)
 }
 
-/// Runs by the words of the program's call, and answers the exit status. If the words cannot be copied, it is not known whether they have
-/// `-q`.
+/// Runs by the words of the program's call, as a solver if they call one, and answers the exit status. If the words cannot be copied, it is
+/// not known whether they have `-q`.
 fn status_of<R: Runtime + AllocGlobal + Net>(rt: &R, showing: Showing) -> u8 {
     let owned = match words(rt) {
         Ok(owned) => owned,
         Err(refusal) => return print_outcome(rt, &Err(refusal.line(false))),
     };
+    if let Some(call) = solver_call(owned.as_slice()) {
+        return solver(rt, call);
+    }
     match run(rt, owned.as_slice(), showing) {
         Ok(status) => status,
         Err(_) => print_outcome(rt, &Err(Refusal::NoMemory.line(false))),

@@ -1,7 +1,8 @@
 //! What each word of a solver asks for: a table of words, and lists of those that are passed over.
 
 ghost use Rattle.std.specs.Prelude.{◌≡◌, map};
-ghost use Rattle.command_line.specs.SolverTable.{is_known as is_known_word, is_listed_behind, lines_have, long_names as long_lines, meaning_in, meaning_of as meaning_of_name, rows as table, row_of, short_names as short_lines};
+ghost use Rattle.command_line.specs.SolverTable.{is_known as is_known_word, is_listed_behind, lines_have, long_names as long_lines, meaning_in, meaning_of as meaning_of_name, rows as table, short_names as short_lines};
+ghost use Rattle.command_line.specs.inner.SolverRows.{row_of};
 
 use crate::solver_words::lists::is_listed;
 

@@ -1,5 +1,6 @@
 use Rattle.std.proofs.Common.{◌≡◌, map, drop}
-use Rattle.command_line.specs.SolverTable.{meaning_in, row_of}
+use Rattle.command_line.specs.SolverTable.{meaning_in}
+use Rattle.command_line.specs.inner.SolverRows.{row_of}
 use Rattle.command_line.proofs.solver_words.table.found_in.Given as goal
 
 -- what the rows that are left say is what all rows say

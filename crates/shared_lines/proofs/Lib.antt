@@ -1,0 +1,4 @@
+mod ByteLemmas
+mod FieldLemmas
+mod KindLemmas
+mod OfferLemmas

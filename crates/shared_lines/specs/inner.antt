@@ -1,0 +1,3 @@
+-- What only private contracts, invariants and proofs name. Nothing here is to be believed.
+pub mod Steps
+pub mod Words
