@@ -1,9 +1,8 @@
 -- What a worker has written after each call.
-use Rattle.std.proofs.Common.{zero, suc, ◌≡◌, ℕ, ◌+◌, ◌<◌, ◌≤◌, ◌^◌, ◌⊎◌, inl, inr, Bool, true, false, List, [], ◌∷◌, ◌++◌, length, map, get_or, append_assoc, append-nil, refl, sym, ◌∙◌, ap, subst, arith}
-use Rattle.std.specs.Bool.{MatchBool}
+use Rattle.std.proofs.Common.{zero, suc, ◌≡◌, ℕ, ◌+◌, ◌<◌, ◌≤◌, ◌^◌, ◌⊎◌, inl, inr, Bool, List, [], ◌∷◌, ◌++◌, length, map, get_or, append_assoc, refl, sym, ◌∙◌, ap, subst, arith}
 use Rattle.std.specs.List.{All, Contains}
 use Rattle.std.proofs.lemmas.Bool.{cases_lt}
-use Rattle.std.proofs.lemmas.List.Elements.{All-append, All-cons, All-nil, All-weaker}
+use Rattle.std.proofs.lemmas.List.Elements.{All-cons, All-nil, All-weaker}
 use Rattle.dimacs.specs.logic.ClauseMap.{ClauseMap, live_in}
 use Rattle.dimacs.specs.logic.Cnf.{Cnf, assignment_of}
 use Rattle.dimacs.specs.logic.Literal.{Literal, Clause, IsTautology, IsTrueIn, IsWithin, negation}
@@ -18,9 +17,9 @@ use Rattle.cube_solve.specs.Session.{AllTrue, IsSolution, last_of, log_of, vars_
 use Rattle.cube_solve.specs.SessionLog.{AreRightSteps, IsKnown, LogGrowsFrom}
 use Rattle.cube_solve.specs.Subsequences.{IsSubsequenceOf}
 use Rattle.cube_solve.specs.declared.session.Session.{Session}
-use Rattle.shared_logs.specs.SharedLogs.{SharedLogState, SharedStep, Import, IsSharedStep, after_line, initial_state}
+use Rattle.shared_logs.specs.SharedLogs.{SharedLogState, SharedStep, IsSharedStep, after_line, initial_state}
 use Rattle.shared_logs.specs.SharedText.{Names, SpellsName, SpellsSharedStep}
-use Rattle.cell_worker.specs.WorkerLog.{AreNamed, HasWritten, IsImport, IsSharedText, TakesOver, clock_in, last_in, log_state, names_in, vars_in}
+use Rattle.cell_worker.specs.WorkerLog.{HasWritten, IsSharedText, clock_in, last_in, log_state, names_in, vars_in}
 use Rattle.cell_worker.specs.declared.worker.CellWorker.{CellWorker}
 use Rattle.cell_worker.proofs.TextLemmas.{formula_lives, own, own_state, state_append, state_push, text_lines, text_more, text_named}
 
@@ -161,22 +160,3 @@ module _ {P : Type 0} (F : Cnf) (names : Names) (steps : List SharedStep) (text 
           (formula_lives (length F.clauses) (initial_state F) (steps ++ map own x.steps) (i + 1) C (w.is_text).is_log (omega arith) (omega arith) (numbered_at F.clauses i d b)));
       query = holds;
     }
-
--- ---- offers that are taken over
-module _ {P : Type 0} where
-  pub takes_none : (s : CellWorker P) → TakesOver s s
-  takes_none s = λ F names steps text h named. ([], All-nil IsImport, subst (λ (ls : List SharedStep). HasWritten F names ls text s) (sym (append-nil steps)) h)
-
-  pub takes_on : (s u w : CellWorker P) → TakesOver s u → names_in u ≡ names_in s → TakesOver u w → TakesOver s w
-  takes_on s u w f same g = λ F names steps text h named.
-      let a = f F names steps text h named in
-      let b = g F names (steps ++ a.0) text a.2 (subst (AreNamed names) (sym same) named) in
-      (a.0 ++ b.0, All-append IsImport a.0 b.0 a.1 b.1, subst (λ (ls : List SharedStep). HasWritten F names ls text w) (append_assoc steps a.0 b.0) b.2)
-
-  pub takes_lent : (lent : Bool) (s u : CellWorker P) (log there : ℕ) (C : Clause)
-      → MatchBool lent ((F : Cnf) (names : Names) (steps : List SharedStep) (text name : List ℕ) → HasWritten F names steps text s → Contains names (log, name) → HasWritten F names (steps ++ Import (last_in u) C name there ∷ []) text u) (u ≡ s)
-      → 1 ≤ log → log ≤ names_in s → TakesOver s u
-  takes_lent true s u log there C h low high = λ F names steps text w named.
-      let n = named log low high in
-      (Import (last_in u) C n.0 there ∷ [], All-cons IsImport (Import (last_in u) C n.0 there) [] tt (All-nil IsImport), h F names steps text n.0 w n.1)
-  takes_lent false s u log there C e low high = subst (TakesOver s) (sym e) (takes_none s)

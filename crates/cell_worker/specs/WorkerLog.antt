@@ -23,18 +23,7 @@ pub record IsSharedText (F : Cnf) (names : Names) (steps : List SharedStep) (byt
 abbrev pub log_state : Cnf → List SharedStep → SharedLogState
 log_state F steps = fold after_line (initial_state F) steps
 
--- each number from 1 to n stands for a name
-abbrev pub AreNamed : Names → ℕ → Type 0
-AreNamed names n = (number : ℕ) → 1 ≤ number → number ≤ n → (name : List ℕ) × Contains names (number, name)
-
 -- ---- turns
--- the line is an import
-abbrev pub IsImport : SharedStep → Type 0
-IsImport (Lemma number C hints) = ⊥
-IsImport (Import number C name there) = Unit {0}
-IsImport (Deletion numbers) = ⊥
-IsImport (Clock time) = ⊥
-
 -- the line is a lemma or a deletion
 abbrev pub IsOwn : SharedStep → Type 0
 IsOwn (Lemma number C hints) = Unit {0}
@@ -101,9 +90,3 @@ pub record HasTurned {P : Type 0} (F : Cnf) (names : Names) (steps : List Shared
   pub own : All IsOwn lines
   pub right : IsRightTurn F query lines end_
   pub written : HasWritten F names (steps ++ lines) text w
-
--- imports were written behind what the worker `old` had written, if each number up to the last one that it gave stands for a name
-abbrev pub TakesOver : {P : Type 0} → CellWorker P → CellWorker P → Type 0
-TakesOver old new =
-    (F : Cnf) (names : Names) (steps : List SharedStep) (text : List ℕ) → HasWritten F names steps text old → AreNamed names (names_in old)
-    → (lines : List SharedStep) × All IsImport lines × HasWritten F names (steps ++ lines) text new

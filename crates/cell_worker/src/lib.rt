@@ -9,9 +9,7 @@
 mod offers;
 mod shared_text;
 mod turn;
-mod waiting;
 mod worker;
 
 pub use turn::Turn;
-pub use waiting::WaitingOffers;
 pub use worker::CellWorker;

@@ -28,7 +28,7 @@ const LAST_NAME: u64 = (1 << 48) - 1;
 /// A search of a formula that takes over lemmas of other searches of it, and writes a log with imports. After an error nothing is known of
 /// it.
 pub struct CellWorker<'a, P> {
-    pub(crate) alloc: Global,
+    alloc: Global,
     /// The search. Between two calls its own log is empty: its lines are moved to `log`.
     pub(crate) search: Session<'a, P>,
     /// The bytes of the log that are not handed out yet.

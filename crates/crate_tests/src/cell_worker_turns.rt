@@ -1,7 +1,7 @@
 //! Workers of a cell, one of which takes over a lemma of the other one.
 
 use crate::inputs::{FOUR, UNITS, literal_of};
-use cell_worker::{CellWorker, Turn, WaitingOffers};
+use cell_worker::{CellWorker, Turn};
 use dimacs::read;
 use std::process::Abort;
 use std::test::Fail;
@@ -51,24 +51,5 @@ fn a_worker_finds_an_assignment(rt: HostRuntime) -> Result<(), Fail> {
         _ => assert!(rt; false),
     }
     assert!(rt; !worker.advance(1 << 40).expect(&rt, "memory"));
-    Ok(())
-}
-
-/// The budget is enough for the shorter one of two offers, and the other one waits. A log of number 2 has no name.
-#[test]
-fn the_shortest_offers_come_first(rt: HostRuntime) -> Result<(), Fail> {
-    let formula = read(rt.alloc(), FOUR)?;
-    let mut watches = Watched::new(rt.alloc());
-    let mut worker = CellWorker::new(rt.alloc(), &mut watches, &formula, 0).expect(&rt, "memory");
-    let log = worker.name(b"a").expect(&rt, "memory");
-    assert!(rt; worker.advance(0).expect(&rt, "memory"));
-    let (one, two) = (literal_of(&rt, 1), literal_of(&rt, 2));
-    let mut waiting = WaitingOffers::new(rt.alloc());
-    waiting.push(log, 7, 0, &[one, two]).expect(&rt, "memory");
-    waiting.push(log, 5, 0, &[one]).expect(&rt, "memory");
-    waiting.push(2, 6, 0, &[]).expect(&rt, "memory");
-    worker.take_over(&mut waiting, 5).expect(&rt, "memory");
-    worker.take_over(&mut waiting, 5).expect(&rt, "memory");
-    assert!(rt; worker.written() == b"w 1 a 0\ne 1 0\n5 i 1 0 1 5 0\n6 i 1 2 0 1 7 0\n".as_slice());
     Ok(())
 }
