@@ -231,6 +231,20 @@ class Commands(Case):
         self.answers(1, "c cannot read input", "decide nothing.cnf")
         self.answers(1, "c input line 3 fault 5", "decide not_ended.cnf")
 
+    def test_solver(self) -> None:
+        """A solver says so behind what it has told of its words, and answers `s UNKNOWN`. If not
+        even its words can be copied it does not know that it is one."""
+        def wants(found: Answer, ample: Answer) -> Moment:
+            told = [line + "\n" for line in ample.text.splitlines() if " passed over: " in line]
+            texts = [text + NO_MEMORY + "s UNKNOWN\n" for text in ("", "".join(told))]
+            is_said = found in [Answer(0, text, FILES) for text in texts]
+            return AT_CALL if is_said or found == Answer(1, NO_MEMORY, FILES) else None
+
+        for status, command in ((10, "solver units.cnf"), (20, "solver four.cnf kept"),
+                                (20, "solver --odd -t 5 eight.cnf kept"),
+                                (0, "solver not_ended.cnf")):
+            self.assertEqual(status, self.each_refused(command.split(), wants).status, command)
+
     def test_solve(self) -> None:
         satisfiable, unsatisfiable = "s SATISFIABLE", "s UNSATISFIABLE"
         for line, words in (

@@ -1,6 +1,6 @@
 -- What `decide` tells of an input, and that it is true.
-use Rattle.std.specs.Prelude.{◌≡◌, ◌≢◌, ◌⊎◌, ℕ, ◌<◌, List, Option, Some, Result, Ok, Err, IfOk, OnOk}
-use Rattle.std.proofs.Common.{arith, sym, ◌∙◌, subst, inl, inr}
+use Rattle.std.specs.Prelude.{◌≡◌, ◌≢◌, ◌⊎◌, ℕ, ◌<◌, List, Option, Err}
+use Rattle.std.proofs.Common.{arith, sym, ◌∙◌, inl, inr}
 use Rattle.commands.specs.Decide.{DecidesInput}
 use Rattle.commands.specs.FormulaTree.{IsHushed}
 use Rattle.commands.specs.Known.{HoldsOf}

@@ -96,6 +96,7 @@ fn kept<D: SolverDisk>(
 {
     match write_result(disk, path, text) {
         Ok(()) => Ok(solved),
+        Err(Refusal::NoMemory) => Err(AllocError),
         Err(_) => unknown_for(disk, NO_RESULT),
     }
 }
@@ -168,8 +169,13 @@ pub fn solve_as_minisat<D: SolverDisk, O: Observer>(
     if there == There::Formula {
         return unknown_for(disk, FORMULA);
     }
-    if disk.is_same(files.result, files.input) || disk.test(files.result).is_err() {
+    if disk.is_same(files.result, files.input) {
         return unknown_for(disk, NO_RESULT);
+    }
+    match disk.test(files.result) {
+        Ok(()) => {}
+        Err(Refusal::NoMemory) => return Err(AllocError),
+        Err(_) => return unknown_for(disk, NO_RESULT),
     }
     let asked = SolverFiles {
         input: files.input,

@@ -22,7 +22,7 @@ const SOME_LEVELS: u8 = 6;
 const FEW_LEMMAS: usize = 2000;
 
 /// Reduction number n comes n times this many conflicts after the last one.
-const BETWEEN_REDUCTIONS: u64 = 150;
+const BETWEEN_REDUCTIONS: u64 = 300;
 
 /// The same in a flat formula, whose watch lists are long, so that many lemmas cost more than they save.
 const FLAT_BETWEEN_REDUCTIONS: u64 = 50;

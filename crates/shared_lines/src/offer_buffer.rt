@@ -100,7 +100,9 @@ fn read_addition(step: &mut StepBuffer, most: u32, line: &[u8]) -> Result<(), Te
 
 impl OfferBuffer {
     /// A buffer that holds an offer of the empty clause under the number 0, which no line spells.
-    pub fn new(alloc: Global) -> OfferBuffer {
+    pub fn new(alloc: Global) -> OfferBuffer
+        ensures { (result.time ≡ 0) × (result.number ≡ 0) × (result.clause ≡ []) }
+    {
         OfferBuffer {
             time: 0,
             step: StepBuffer::new(alloc),

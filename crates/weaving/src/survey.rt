@@ -129,6 +129,8 @@ enum Stop {
 
 /// The first reading, between two lines.
 struct Reading {
+    /// The number of clauses of the formula.
+    rows: u64,
     /// The greatest variable that a line may have.
     most: u32,
     cell: CellRecord,
@@ -142,6 +144,7 @@ struct Reading {
 impl Drop for Reading {
     fn drop(self) {
         let Reading {
+            rows: _,
             most: _,
             cell: _,
             last: _,
@@ -152,6 +155,24 @@ impl Drop for Reading {
 }
 
 impl Reading {
+    /// The reading of logs over a formula before the first line.
+    fn of<L: CellLogs>(
+        alloc: Global,
+        formula: &Formula,
+        cubes: &[&[Lit]],
+        logs: &L,
+    ) -> Result<Reading, WeaveFault> {
+        let rows = formula.len() as u64;
+        Ok(Reading {
+            rows,
+            most: log_top(formula.as_base()),
+            cell: CellRecord::of(alloc, rows, cubes, logs)?,
+            last: None,
+            buffer: SharedLineBuffer::new(alloc),
+            line: Vec::new(alloc),
+        })
+    }
+
     /// Takes the line that was read of a log, if it is one.
     fn take_line(&mut self, log: usize) -> Result<Taken, WeaveFault> {
         match self.buffer.read(self.most, &self.line) {
@@ -216,16 +237,38 @@ impl Reading {
         Ok(())
     }
 
-    /// Ends the reading.
-    fn into_parts(self) -> (CellRecord, Option<u32>) {
+    /// Ends the reading: answers what was found, with the runs in which the lines were taken.
+    fn into_survey(self, alloc: Global, runs: Vec<Run>) -> Result<Survey, AllocError> {
         let Reading {
-            most: _,
+            rows,
+            most,
             cell,
             last,
             buffer: _,
             line: _,
         } = self;
-        (cell, last)
+        let CellParts {
+            lemmas,
+            entries,
+            closings,
+            outcomes,
+        } = cell.into_parts(alloc)?;
+        let plan = match last {
+            None => None,
+            Some(last) => Some(Plan {
+                rows,
+                most,
+                runs,
+                entries,
+                uses: last_uses(alloc, &lemmas, &closings)?,
+                closings,
+                last,
+            }),
+        };
+        Ok(Survey {
+            logs: outcomes,
+            plan,
+        })
     }
 }
 
@@ -247,40 +290,10 @@ pub fn survey_logs<L: CellLogs>(
     cubes: &[&[Lit]],
     logs: &L,
 ) -> Result<Survey, WeaveFault> {
-    let rows = formula.len() as u64;
-    let most = log_top(formula.as_base());
-    let mut reading = Reading {
-        most,
-        cell: CellRecord::of(alloc, rows, cubes, logs)?,
-        last: None,
-        buffer: SharedLineBuffer::new(alloc),
-        line: Vec::new(alloc),
-    };
+    let mut reading = Reading::of(alloc, formula, cubes, logs)?;
     let mut runs = Vec::new(alloc);
     let mut lines = open_all(alloc, logs)?;
     let mut heap = all_logs(alloc, lines.len())?;
     reading.take_all(&mut heap, &mut lines, &mut runs)?;
-    let (cell, last) = reading.into_parts();
-    let CellParts {
-        lemmas,
-        entries,
-        closings,
-        outcomes,
-    } = cell.into_parts(alloc)?;
-    let plan = match last {
-        None => None,
-        Some(last) => Some(Plan {
-            rows,
-            most,
-            runs,
-            entries,
-            uses: last_uses(alloc, &lemmas, &closings)?,
-            closings,
-            last,
-        }),
-    };
-    Ok(Survey {
-        logs: outcomes,
-        plan,
-    })
+    Ok(reading.into_survey(alloc, runs)?)
 }
