@@ -486,9 +486,10 @@ class Functions(Case):
 
     def test_conquer(self) -> None:
         formula, proof = str(EXAMPLES / "pigeons_6.cnf"), self.at("proof")
-        answer = satcluster.conquer(formula, jobs=1, proof=proof, words=["--depth", "1"])
-        self.assertEqual((False, None), tuple(answer))
-        self.assertTrue(satcluster.check(formula, proof))
+        for jobs in (1, 2):
+            answer = satcluster.conquer(formula, jobs=jobs, proof=proof, words=["--depth", "1"])
+            self.assertEqual((False, None), tuple(answer))
+            self.assertTrue(satcluster.check(formula, proof))
         shutil.copy(str(EXAMPLES / "schur_3_13.cnf"), str(self.folder))
         answer = satcluster.conquer(self.at("schur_3_13.cnf"), jobs=1, folder=self.at("run"))
         self.assertEqual(39, len(answer.model or []))

@@ -1,20 +1,25 @@
 #!/usr/bin/env python3
-"""Refutes the leaves of a formula's splitting tree side by side, and joins one proof of all.
+"""Decides a formula by searches side by side, of the whole of it and of the leaves of its splitting
+tree, and makes one proof of all.
 
     tools/conquer.py [--program PATH] [--solver satcluster|cadical|kissat|COMMAND]
                      [--engine local|make|parallel|slurm] [--jobs N]
                      [--depth D | --look N | --cubes-from FILE]
-                     [--block N] [--limit L] [--seconds S] [--no-race] [--no-cuts] [--pipe]
-                     [--compress] [--receipts] [--drop-logs] [--binary] [--publish DIR]
-                     [--memory M] [--minutes T] [--scratch DIR] [--folder DIR] [--timeout S]
-                     [-q] [-n] INPUT [PROOF]
+                     [--no-share] [--block N] [--limit L] [--seconds S] [--no-race] [--no-cuts]
+                     [--pipe] [--compress] [--receipts] [--drop-logs] [--binary]
+                     [--publish DIR] [--memory M] [--minutes T] [--scratch DIR] [--folder DIR]
+                     [--timeout S] [-q] [-n] INPUT [PROOF]
     tools/conquer.py --recheck FOLDER [--engine ..] [--jobs N] [--timeout S] [-q]
     tools/conquer.py --version
 
 INPUT may be packed by gzip, xz, bzip2 or zstd, if that is installed: it is unpacked to the folder.
 Prints the `s` and `v` lines of `satcluster decide`, and ends with its statuses: 10, 20, 0 and 1.
-Each answer is one of the proved program: `join` tests every log and every assignment of a job. So a
-fault of this script, of a solver or of a disk costs time, and makes no wrong answer.
+Each answer is one of the proved program: `weave` or `join` tests every log, and every assignment is
+tested. So a fault of this script, of a solver or of a disk costs time, and makes no wrong answer.
+
+The searches share what they learn. With --no-share each leaf is a job of its own, and so it is with
+--jobs 1, another solver or engine, and with words that are of jobs: --block, --limit, --seconds,
+--no-race, --no-cuts, --compress, --receipts and --scratch.
 
 All state is a folder of files, INPUT.conquer if --folder is left out. After Ctrl-C, --timeout or a
 kill the same command goes on with the files that are there. COMMAND is a command line with {cnf}
@@ -37,6 +42,7 @@ sys.dont_write_bytecode = True
 from explanations.looks import LARGE, asks_for_large, head_of, header_of, packing
 from explanations.words import told, unreadable, unwritable
 from leaf_jobs import bundle, endings, places, receipts, report, summary
+from leaf_jobs.cell import CELL, LENT, Cell, room
 from leaf_jobs.endings import Stopped
 from leaf_jobs.engines import ENGINES, Engine, Limits, work
 from leaf_jobs.files import Fault, Folder, last_line, publish
@@ -85,6 +91,9 @@ def parser() -> Words:
     option("--depth", metavar="D", type=number(0, 16), help="how deep to split; %d" % DEPTH)
     option("--look", metavar="N", type=number(1, 65536), help="look ahead, for about N leaves")
     option("--cubes-from", metavar="FILE", help="complete the cubes that this file lists")
+    option("--no-share", action="store_true",
+           help="leaves are jobs and share nothing, as with --jobs 1, another solver or engine, "
+           "--block, --limit, --seconds, --no-race, --no-cuts, --compress, --receipts, --scratch")
     option("--block", metavar="N", type=number(1, 4096),
            help="leaves of a job; 16, or 4 of cadical")
     option("--limit", metavar="L", type=number(1, most), help="lemmas before a leaf is cut in two")
@@ -346,6 +355,23 @@ def answer_of(run: Run, engine: Engine, jobs: int) -> Tuple[int, List[str]]:
             return status, lines
 
 
+def workers_of(asked: Namespace, jobs: int, folder: Folder, plan: Plan, screen: Screen) -> int:
+    """How many workers the run has, if it is a cell: of more than one job, and without a word that
+    is of jobs of leaves; else 0."""
+    of_jobs = (asked.no_share, asked.block, asked.limit, asked.seconds, asked.no_race,
+               asked.no_cuts, asked.compress, asked.receipts, asked.scratch,
+               asked.solver != "satcluster", asked.engine != "local", asked.recheck is not None)
+    if jobs == 1 or any(of_jobs):
+        return 0
+    if set(folder.names("logs")) - {LENT}:
+        screen.say("c logs of leaves stand in the folder: it goes on as with --no-share")
+        return 0
+    workers = int(min(jobs, room(plan.input)))
+    if workers < jobs:
+        screen.say("c there is memory for %d of %d workers" % (workers, jobs))
+    return workers if workers > 1 else 0
+
+
 def cores() -> int:
     """The cores that this process may use; 1 if the system does not tell."""
     if hasattr(os, "sched_getaffinity"):
@@ -401,12 +427,19 @@ def conquer(asked: Namespace, screen: Screen) -> int:
     run = Run(folder, plan, screen, bell, DRAFT if asked.PROOF or asked.publish else None,
               bool(asked.publish))
     run.renew = report.Live(run, screen).renew
+    is_begun = bool(before) or folder.at(CELL).exists()
     try:
         engine.settle()
         keep_grown(folder)
         folder.clean()
+        plan.workers = workers_of(asked, jobs, folder, plan, screen)
         folder.write("plan.json", json.dumps(dataclasses.asdict(plan)))
-        status, lines = answer_of(run, engine, jobs or cores())
+        if plan.workers:
+            status, lines = Cell(run, plan.workers).answer(is_begun)
+        else:
+            if folder.at(CELL).exists():
+                Cell(run, 1).lend()
+            status, lines = answer_of(run, engine, jobs or cores())
     except BaseException as why:
         if isinstance(why, Stopped):
             done = len(run.cubes) - run.open()

@@ -5,7 +5,7 @@
 
 A CASE is Kills, or Kills.test_local; they run alone, and in any order. KILLS of the environment is
 how often the script is killed at random moments, at least, and how often a job of it; 6 if it is
-not set. With other engines it is a third of that. SEED draws the moments.
+not set, and 10 for a cell. With other engines it is a third of that. SEED draws the moments.
 """
 import collections
 import csv
@@ -29,7 +29,7 @@ sys.dont_write_bytecode = True
 
 import small_slurm
 from cases import EXAMPLES, pigeons, run, satisfies
-from leaf_jobs import closings, figures, files, processes, progress, report, screen
+from leaf_jobs import cell, closings, figures, files, processes, progress, report, screen, usage
 from leaf_jobs.cuts import to_cut
 from leaf_jobs.engines import late_leaves, size_of_block
 from leaf_jobs.figures import State, state_of
@@ -153,7 +153,8 @@ class Answers(Case):
         """A second start takes what is there."""
         for name in ("four_clauses", "schur_3_14", "urquhart_24"):
             formula = name + ".cnf"
-            self.ends(20, ["s UNSATISFIABLE"], "-q", "--depth", "4", formula, "f.lrat")
+            words = ["-q", "--no-share", "--depth", "4"]
+            self.ends(20, ["s UNSATISFIABLE"], *words, formula, "f.lrat")
             self.verifies(formula, "f.lrat")
             before = self.moments(formula)
             self.at("f.lrat").unlink()
@@ -165,10 +166,11 @@ class Answers(Case):
         """The proof that stood is left."""
         self.write("f.lrat", "what stood\n")
         for name in ("random_100_sat.cnf", "schur_3_13.cnf"):
-            status, lines = self.conquer("-q", "--depth", "3", name, "f.lrat")
+            words = ["-q", "--no-share"]
+            status, lines = self.conquer(*words, "--depth", "3", name, "f.lrat")
             self.assertEqual((10, "s SATISFIABLE"), (status, lines[0]))
             self.assertTrue(satisfies(self.at(name).read_text(), lines))
-            self.ends(10, ["s SATISFIABLE"], "-q", "-n", name)
+            self.ends(10, ["s SATISFIABLE"], *words, "-n", name)
         self.assertEqual("what stood\n", self.at("f.lrat").read_text())
 
     def test_verdict_alone(self) -> None:
@@ -210,8 +212,11 @@ class Answers(Case):
                 continue
             with self.at(name).open("wb") as packed:
                 subprocess.run([tool, "-c", str(self.at(formula))], stdout=packed, check=True)
-            self.ends(20, ["s UNSATISFIABLE"], "-q", "--depth", "3", name, "f.lrat")
-            self.verifies(formula, "f.lrat")
+            for way in ([], ["--no-share"]):
+                self.forget(name)
+                words = ["-q", "--depth", "3", *way]
+                self.ends(20, ["s UNSATISFIABLE"], *words, name, "f.lrat")
+                self.verifies(formula, "f.lrat")
             self.at("cut").write_bytes(self.at(name).read_bytes()[:-20])
             self.ends(1, ["c cannot read input"], "cut")
             self.tells("%s ends with" % tool)
@@ -292,9 +297,11 @@ class Answers(Case):
         self.ends(1, ["c cubes line 2 fault 12"], *words)
         self.tells("march.cubes, line 2", "leaves of one tree", "a 4 1 0")
         self.write("march.cubes", "a 4 -1 5 0\nwhat a splitter prints\na -4 1 0\n")
-        self.ends(20, ["s UNSATISFIABLE"], "-q", *words)
-        self.verifies(formula, "f.lrat")
-        self.assertEqual(5, len(self.leaves(formula)), "three leaves were added")
+        for way in ([], ["--no-share"]):
+            self.forget(formula)
+            self.ends(20, ["s UNSATISFIABLE"], "-q", *way, *words)
+            self.verifies(formula, "f.lrat")
+            self.assertEqual(5, len(self.leaves(formula)), "three leaves were added")
 
 
 class Faults(Case):
@@ -329,8 +336,8 @@ class Faults(Case):
         self.tells("no program no-solver on the path")
 
     def test_folder_of_another_formula(self) -> None:
-        self.ends(20, ["s UNSATISFIABLE"], "-q", FOUR)
-        words = ["--folder", FOUR + ".conquer", "schur_3_14.cnf"]
+        self.ends(20, ["s UNSATISFIABLE"], "-q", "--no-share", FOUR)
+        words = ["--no-share", "--folder", FOUR + ".conquer", "schur_3_14.cnf"]
         for _ in range(2):
             self.ends(1, [], "-q", *words)
             self.tells("/%s." % FOUR, "rm -r ", "--folder")
@@ -358,7 +365,7 @@ class Faults(Case):
             (["--depth", "1"], False), (["--depth", "1"], False), ([], False),
             (["--depth", "2"], True), (["--look", "2"], True)]
         for words, is_told in starts:
-            status, lines = self.conquer(*words, FOUR)
+            status, lines = self.conquer("--no-share", *words, FOUR)
             found = any("c %s is not used" % "".join(words[:1]) in line for line in lines)
             self.assertEqual((20, is_told), (status, found), lines)
 
@@ -573,7 +580,7 @@ class Publishes(Case):
 
     def test_run(self) -> None:
         """The same run makes the same bytes again, whatever stood there; checkers take them."""
-        words = ["--depth", "3", "--publish", "to", PIGEONS]
+        words = ["--no-share", "--depth", "3", "--publish", "to", PIGEONS]
         status, lines = self.conquer(*words)
         self.assertEqual((20, True), (status, "c satcluster check: s VERIFIED" in lines), lines)
         first = self.bytes_of("to")
@@ -1291,6 +1298,317 @@ awk '/^q/ { n++ } n < 4' "$5" > "$5.cut"; printf 'l 99' >> "$5.cut"; mv "$5.cut"
         self.assertTrue(satisfies(self.at("schur_3_13.cnf").read_text(), lines))
 
 
+class Cells(Case):
+    """Workers that share what they learn: the way that is taken if no word asks for another one."""
+
+    WORDS = ["--jobs", "2", "--depth", "4"]
+    HARD = "hard.cnf"
+
+    def setUp(self) -> None:
+        super().setUp()
+        self.draw = random.Random(int(os.environ.get("SEED", 1)))
+        self.write(self.HARD, pigeons(8))
+
+    def cell(self, formula: str, ending: str = ".log") -> List[Path]:
+        """The logs, or the offers, of the workers of a formula's run."""
+        folder = self.at(formula + ".conquer", "cell")
+        return sorted(folder.glob("*" + ending)) if folder.exists() else []
+
+    def refutes(self, formula: str, *words: str) -> None:
+        """A run has this verdict, and a proof of it."""
+        if self.at("c.lrat").exists():
+            self.at("c.lrat").unlink()
+        self.ends(20, ["s UNSATISFIABLE"], "-q", *self.WORDS, *words, formula, "c.lrat")
+        self.verifies(formula, "c.lrat")
+        self.assertEqual([], self.running(formula), "workers that are left")
+
+    def wrapped(self, text: str) -> List[str]:
+        """A program that does this before it does what it is asked. It is given an order by all."""
+        self.write("wrapped", "#!/bin/sh\n%s\nexec %s \"$@\"\n" % (text, self.program))
+        self.at("wrapped").chmod(0o755)
+        return ["--program", str(self.at("wrapped"))]
+
+    def test_unsatisfiable(self) -> None:
+        """What stands is woven again, and no worker is begun; without PROOF none is left."""
+        for name in ("four_clauses", "schur_3_14", "urquhart_24"):
+            formula = name + ".cnf"
+            self.ends(20, ["s UNSATISFIABLE"], "-q", *self.WORDS, formula)
+            self.assertEqual([], list(self.at(formula + ".conquer").rglob("*.lrat")))
+            before = self.cell(formula)
+            self.assertTrue(before)
+            self.refutes(formula)
+            self.refutes(formula, "--binary")
+            self.assertEqual(before, self.cell(formula))
+            self.assertEqual([], self.logs(formula))
+
+    def test_satisfiable(self) -> None:
+        """The proof that stood is left, and the assignment is kept."""
+        self.write("f.lrat", "what stood\n")
+        for name in ("random_100_sat.cnf", "schur_3_13.cnf"):
+            status, lines = self.conquer("-q", *self.WORDS, name, "f.lrat")
+            self.assertEqual((10, "s SATISFIABLE"), (status, lines[0]))
+            self.assertTrue(satisfies(self.at(name).read_text(), lines))
+            before = self.cell(name)
+            self.ends(10, ["s SATISFIABLE"], "-q", "-n", *self.WORDS, name)
+            self.assertEqual(before, self.cell(name))
+        self.assertEqual("what stood\n", self.at("f.lrat").read_text())
+
+    def test_one_leaf(self) -> None:
+        """All workers search the whole formula."""
+        status, lines = self.conquer("--jobs", "3", "--depth", "0", PIGEONS)
+        self.assertEqual((20, "c a cell of 3: 3 on the whole formula"), (status, lines[0]), lines)
+
+    def test_large(self) -> None:
+        """A formula above the written limits is given to workers and weaver with the word."""
+        self.write("large.cnf", "p cnf 1000001 3\n1 2 0\n-1 0\n-2 1000001 0\n")
+        self.ends(10, ["s SATISFIABLE"], "-q", "-n", *self.WORDS, "large.cnf")
+        self.write("none.cnf", "p cnf 1000001 4\n1 2 0\n-1 0\n-2 1000001 0\n-1000001 -2 0\n")
+        status, lines = self.conquer(*self.WORDS, "none.cnf", "c.lrat")
+        self.assertEqual((20, True), (status, "s UNSATISFIABLE" in lines), lines)
+        self.assertTrue(lines[0].startswith("c --large") and self.cell("none.cnf"), lines)
+        done = subprocess.run([self.program, "check", "--large", "none.cnf", "c.lrat"],
+                              cwd=str(self.folder), stdout=subprocess.PIPE, check=False)
+        self.assertEqual(b"s VERIFIED\n", done.stdout)
+
+    def test_memory(self) -> None:
+        """No more workers are begun than there is room for."""
+        with mock.patch.object(Path, "read_text", return_value="MemAvailable:  900000 kB\n"):
+            self.write("f.cnf", " " * 10000000)
+            self.assertEqual(4, cell.room(str(self.at("f.cnf"))))
+        with mock.patch.object(Path, "read_text", side_effect=OSError):
+            self.assertEqual(float("inf"), cell.room(str(self.at("f.cnf"))))
+
+    def test_ways(self) -> None:
+        """Words of jobs are obeyed, and so are logs that stand: no cell is made."""
+        for words in ("--no-share", "--jobs 1", "--block 2", "--no-race", "--no-cuts",
+                      "--limit 999", "--seconds 99", "--receipts", "--scratch .",
+                      "--engine make", *["--compress"] * bool(shutil.which("zstd"))):
+            self.forget(FOUR)
+            self.assertIn(self.conquer("-q", "--jobs", "2", *words.split(), FOUR).status, (0, 20))
+            self.assertFalse(self.at(FOUR + ".conquer", "cell").exists(), words)
+            self.assertNotEqual([], self.logs(FOUR), words)
+        status, lines = self.conquer("--jobs", "2", FOUR)
+        self.assertEqual((20, True), (status, "--no-share" in "".join(lines)), lines)
+
+    def test_jobs_after_a_cell(self) -> None:
+        """They run the leaves that the cell has left; a cell goes on after them, too."""
+        self.ends(20, ["s UNSATISFIABLE"], "-q", *self.WORDS, PIGEONS)
+        logs = self.cell(PIGEONS)
+        for is_cut in (False, True):
+            for path in logs[1:] * is_cut:
+                path.unlink()
+            if is_cut:
+                logs[0].write_bytes(logs[0].read_bytes()[:-len(logs[0].read_bytes()) // 4])
+                self.at(PIGEONS + ".conquer", "logs", "cell.lrat").unlink()
+            status, lines = self.conquer(*self.WORDS, "--no-share", PIGEONS, "c.lrat")
+            self.assertEqual((20, True), (status, "s UNSATISFIABLE" in lines), lines)
+            self.verifies(PIGEONS, "c.lrat")
+            told = "c %d leaves, 0 to run" % len(self.leaves(PIGEONS)) in lines
+            self.assertEqual(not is_cut, told, lines)
+            if not is_cut:
+                self.refutes(PIGEONS)
+
+    def test_leaves_alone(self) -> None:
+        """All leaves are closed, and the formula is not: `join` makes the proof."""
+        self.ends(20, ["s UNSATISFIABLE"], "-q", *self.WORDS, PIGEONS)
+        hides = 'case "$*" in weave*--cubes*) ;; weave*) echo c closes nothing; exit 1;; esac'
+        for words in ([], ["--binary"], ["--publish", "to"]):
+            self.refutes(PIGEONS, *self.wrapped(hides), *words)
+        self.assertTrue(self.at("to", "proof.lrat.xz").exists())
+
+    def test_publish(self) -> None:
+        """The same run makes the same bytes again."""
+        words = ["-q", *self.WORDS, "--publish", "to", PIGEONS]
+        self.ends(20, ["s UNSATISFIABLE"], *words)
+        first = {path.name: path.read_bytes() for path in self.at("to").iterdir()}
+        self.ends(20, ["s UNSATISFIABLE"], *words)
+        second = {path.name: path.read_bytes() for path in self.at("to").iterdir()}
+        self.assertEqual([], [name for name in first if first[name] != second.get(name)])
+        self.assertEqual(set(first), set(second))
+
+    def test_usage(self) -> None:
+        """What is read of logs: lemmas, and whose were taken over, by the names that stand for
+        them."""
+        self.write("a.log", "e 1 0\n9 1 0 2 3 0\nw 1 b 0\n10 i 2 -3 0 1 12 0\n9 d 9 0\n"
+                   "11 i 0 1 13 0\nw 2 c 0\n12 i 7 0 2 9 0\n13 0 11 0\n14 5 0 ")
+        self.write("b.log", "")
+        found = {one.name: one for one in usage.usages(self.folder)}
+        self.assertEqual({"a": usage.Usage("a", 2, {"b": 2, "c": 1}),
+                          "b": usage.Usage("b", 0, {})}, found)
+
+    def test_report(self) -> None:
+        """Its lanes have leaves and the whole formula."""
+        self.refutes(PIGEONS)
+        facts = dict(re.findall("<dt>([^<]*)<dd>([^<]*)</div>", self.report(PIGEONS)))
+        self.assertEqual("0", facts["open"])
+        self.assertIn("the whole formula unsplit", facts)
+        self.assertIn("satcluster share, 2 workers", self.report(PIGEONS))
+        self.assertIn("<h2>Who used whose lemmas</h2>", self.report(PIGEONS))
+        played = subprocess.run([sys.executable, str(SCRIPT.parent / "simulate.py"),
+                                 PIGEONS + ".conquer"], cwd=str(self.folder),
+                                stdout=subprocess.PIPE, stderr=subprocess.PIPE, check=False)
+        self.assertEqual((1, True), (played.returncode, b"is of a cell" in played.stderr))
+        rows = self.at(PIGEONS + ".conquer", "leaves.csv").read_text().splitlines()
+        self.assertEqual(len(self.leaves(PIGEONS)), len(rows) - 1)
+
+    def test_workers_that_die(self) -> None:
+        """Each of the first four, at once or while it searches: others are begun."""
+        for dies in ("kill -9 $$", "timeout -s KILL 0.1 %s \"$@\"; exit 9" % self.program,
+                     "echo c no memory; exit 1"):
+            self.forget(self.HARD)
+            for number in range(4):
+                shutil.rmtree(str(self.at("wrapped.%d" % number)), ignore_errors=True)
+            first = "".join("mkdir $0.%d 2> /dev/null && { %s; }\n" % (number, dies)
+                            for number in range(4))
+            self.refutes(self.HARD, *self.wrapped('case "$1" in share)\n%s;; esac' % first))
+
+    def test_workers_that_all_die(self) -> None:
+        """Each is begun three times, and why it died is told twice. The next start goes on."""
+        dies = self.wrapped('case "$1" in share) echo begun >> $0.count; exit 3;; esac')
+        status, lines = self.conquer(*self.WORDS, *dies, PIGEONS, "c.lrat")
+        self.assertEqual((0, True), (status, "s UNKNOWN" in lines), lines)
+        self.assertIn("c leaf 1 missing", lines)
+        self.assertEqual(6, len(self.at("wrapped.count").read_text().splitlines()))
+        told = [line for line in lines if " failed: share ends with 3" in line]
+        self.assertEqual(2, len(told), lines)
+        self.assertEqual("c 6 jobs failed: share ends with 3: nothing printed", told[1])
+        self.assertFalse(self.at("c.lrat").exists())
+        self.refutes(PIGEONS)
+
+    LIES = ("exit 20", "echo c closed; exit 20", "echo c closed by others",
+            "echo s SATISFIABLE; echo v 1 2 3 0; exit 10", "seq -f 'c leaf %g closed' 99; sleep 9",
+            "seq -f 'c leaf %g closed' 99; exit 20", "echo; yes 'c leaf 0 closed' | head -9")
+
+    def test_lies(self) -> None:
+        """What a worker says of itself is no answer: a run goes on, or ends without one."""
+        for lie in self.LIES:
+            self.forget(PIGEONS)
+            always = self.wrapped('case "$1" in share) %s; exit 0;; esac' % lie)
+            status, lines = self.conquer("-q", *self.WORDS, *always, PIGEONS)
+            self.assertEqual((0, "s UNKNOWN"), (status, lines[-1]), (lie, lines))
+            shutil.rmtree(str(self.at("wrapped.once")), ignore_errors=True)
+            once = self.wrapped('case "$1" in share) mkdir $0.once && { %s; exit 0; };; '
+                                "esac 2> /dev/null" % lie)
+            self.refutes(PIGEONS, *once)
+
+    def test_weaving_that_is_killed(self) -> None:
+        """It is begun again."""
+        once = self.wrapped('case "$1" in weave) mkdir $0.$1 2> /dev/null && kill -9 $$;; esac')
+        self.refutes(PIGEONS, *once)
+
+    def test_other_formula(self) -> None:
+        """It is told, and the folder is left as it was."""
+        self.ends(20, ["s UNSATISFIABLE"], "-q", *self.WORDS, FOUR)
+        before = self.cell(FOUR)
+        for _ in range(2):
+            status, lines = self.conquer("--jobs", "2", "--folder", FOUR + ".conquer", PIGEONS)
+            self.assertEqual((1, "c cubes of another formula"), (status, lines[-1]))
+            self.tells("/%s." % FOUR)
+        self.assertEqual(before, self.cell(FOUR))
+        self.refutes(FOUR)
+
+    def test_timeout(self) -> None:
+        """The next start goes on with what was learnt."""
+        self.write("long.cnf", pigeons(11))
+        words = [*self.WORDS, "--timeout", "4", "long.cnf"]
+        status, lines = self.conquer(*words)
+        self.assertEqual((0, "s UNKNOWN"), (status, lines[-1]))
+        before = len(self.cell("long.cnf"))
+        self.assertEqual((2, []), (before, self.running("long.cnf")))
+        self.ends(0, ["s UNKNOWN"], "-q", *words)
+        self.assertEqual(4, len(self.cell("long.cnf")))
+        self.assertTrue(any(b" i " in path.read_bytes() for path in self.cell("long.cnf")))
+
+    def spoil(self, path: Path) -> None:
+        """Cuts a file anywhere, or changes it."""
+        data = path.read_bytes()
+        place = self.draw.randrange(len(data) + 1)
+        kind = self.draw.randrange(6)
+        if kind < 3:
+            path.write_bytes(data[:place])
+        elif kind == 3:
+            path.write_bytes(data[:place] + b"7" + data[place + 1:])
+        elif kind == 4:
+            path.write_bytes(data[:place] + data[place // 2:])
+        else:
+            path.unlink()
+
+    def test_spoilt_files(self) -> None:
+        """Whatever became of logs and offers, the run goes on with the others."""
+        self.ends(20, ["s UNSATISFIABLE"], "-q", *self.WORDS, PIGEONS)
+        whole = {path: path.read_bytes() for path in self.cell(PIGEONS, ".*")}
+        for _ in range(8):
+            for path in self.cell(PIGEONS, ".*"):
+                path.unlink()
+            for path, data in whole.items():
+                path.write_bytes(data)
+                if self.draw.random() < 0.7:
+                    self.spoil(path)
+            self.refutes(PIGEONS)
+
+    def test_files_of_others(self) -> None:
+        """Logs that are none, of another formula, with wrong offers; and what is no file."""
+        self.ends(20, ["s UNSATISFIABLE"], "-q", *self.WORDS, "schur_3_14.cnf")
+        cell = self.at(PIGEONS + ".conquer", "cell")
+        cell.mkdir(parents=True)
+        for path in self.cell("schur_3_14.cnf", ".*"):
+            shutil.copy(str(path), str(cell))
+        (cell / "folder.log").mkdir()
+        (cell / "folder2.out").mkdir()
+        os.mkfifo(str(cell / "pipe.out"))
+        (cell / "lies.out").write_text("1 200 0\n1 201 1 0\n")
+        (cell / "wrong.log").write_text("134 1 0 1 2 0\n")
+        (cell / "wrong.out").write_text("1 134 1 0\n1 134 2 0\n")
+        (cell / "garbage.log").write_bytes(bytes(range(256)))
+        (cell / "garbage.out").write_bytes(bytes(range(256)))
+        for _ in range(2):
+            self.refutes(PIGEONS)
+
+    def test_script_killed(self) -> None:
+        """At random moments; its workers end with it, and what they had learnt is lent again."""
+        self.killed(int(os.environ.get("KILLS", 10)), 0)
+
+    def test_workers_killed(self) -> None:
+        """Two at random moments of each start, and now and then the script."""
+        self.killed(int(os.environ.get("KILLS", 10)) // 3, 2)
+
+    def killed(self, kills: int, workers: int) -> None:
+        words = ["-q", *self.WORDS, "--depth", "3", self.HARD, "c.lrat"]
+        began, done = time.monotonic(), 0
+        self.refutes(self.HARD)
+        whole = time.monotonic() - began
+        self.forget(self.HARD)
+        while done < kills:
+            process = self.start(*words)
+            for _ in range(workers):
+                time.sleep(self.draw.uniform(0.2, 0.5) * whole)
+                found = [pid for pid in self.running(self.HARD) if pid != process.pid]
+                done += kill(self.draw.choice(found)) if found else 0
+            time.sleep(self.draw.uniform(0, 1) * whole)
+            if process.poll() is None and self.draw.random() < (0.3 if workers else 1):
+                done += kill(process.pid)
+                process.communicate()
+                self.wait_for("workers", lambda: not self.running(self.HARD), 5)
+                if self.cell(self.HARD, ".*") and self.draw.random() < 0.3:
+                    self.spoil(self.draw.choice(self.cell(self.HARD, ".*")))
+                continue
+            self.assertEqual((20, ["s UNSATISFIABLE"]), self.end(process, "a start"))
+            self.forget(self.HARD)
+        self.refutes(self.HARD)
+        self.assertEqual(["c.lrat"], [path.name for path in self.folder.glob("c.lrat*")])
+
+    def test_model_of_a_killed_run(self) -> None:
+        """Killed anywhere, a satisfiable formula gets no other verdict."""
+        formula = "random_100_sat.cnf"
+        for _ in range(max(2, int(os.environ.get("KILLS", 10)) // 3)):
+            process = self.start("-q", "-n", *self.WORDS, formula)
+            time.sleep(self.draw.uniform(0.1, 0.6))
+            kill(process.pid)
+            process.communicate()
+            self.ends(10, ["s SATISFIABLE"], "-q", "-n", *self.WORDS, formula)
+            self.forget(formula)
+
+
 class Engines(Case):
     """An engine of others gives the same answers."""
 
@@ -1669,6 +1987,14 @@ class Units(unittest.TestCase):
         self.assertEqual("time left unknown", progress.told(progress.Times(), None))
         self.assertEqual("up to 1:40 left", progress.told(times, (0.5, 100)))
 
+    def test_line_of_a_cell(self) -> None:
+        def runs(elapsed: List[float], races: int) -> str:
+            now = progress.Now(elapsed, races=races)
+            return progress.line(1, 4, now, 9, "", 0, 80).split(", ", 2)[2]
+
+        self.assertEqual(["2 jobs on 2 leaves + 3 unsplit", "4 unsplit"],
+                         [runs([1, 2], 3), runs([], 4)])
+
     def test_line_that_fits(self) -> None:
         """No line is longer than there is room for, and none ends within a word."""
         now = progress.Now([9.0] * 63, [15] * 63, True, 64)
@@ -1907,7 +2233,7 @@ class Receipts(Case):
     def test_folder_of_logs(self) -> None:
         """Logs of a start without receipts get theirs, those of no leaf too; and logs with receipts
         are joined if a proof is asked for."""
-        self.assertEqual(20, self.conquer("--depth", "3", PIGEONS)[0])
+        self.assertEqual(20, self.conquer("--no-share", "--depth", "3", PIGEONS)[0])
         moments = self.moments(PIGEONS)
         self.covered(PIGEONS)
         self.assertEqual(moments, self.moments(PIGEONS))

@@ -4,9 +4,10 @@
     tools/conquer_times.py [--solver NAME] [--depth D] [--jobs N] [--runs R] [--split]
         PATH-OF-satcluster FORMULA..
 
-A row has the seconds by the clock of the solver on the whole formula, of `conquer.py` with one job
-and with N, of its leaves alone with one job and with N, of `join` and of `check` by themselves, and
-the proof's size. Each figure is the least of R runs, but that of the whole formula is of one;
+A row has the seconds by the clock of the solver on the whole formula, of `conquer.py --no-share`
+with one job and with N, of its leaves alone with one job and with N, of `join` and of `check` by
+themselves, and the proof's size. Each figure is the least of R runs, but that of the whole formula
+is of one;
 --split leaves it out. `satcluster` on the whole formula is `solve --depth 0`. `-` is a run that was
 ended after 15 minutes.
 """
@@ -27,7 +28,7 @@ class JoinBench(Bench):
 
     def figures(self, jobs: int) -> List[Seconds]:
         """Of a whole run, its leaves alone, the join and the check, and the proof's megabytes."""
-        whole, proof = self.run(jobs), self.folder / "f.lrat"
+        whole, proof = self.run(jobs, "--no-share"), self.folder / "f.lrat"
         if whole is None:
             return [None] * 5
         check = timed([self.asked.program, "check", self.formula, str(proof)], 0)

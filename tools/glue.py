@@ -14,8 +14,8 @@ from typing import Dict, List, NamedTuple, Tuple
 ROOT = Path(__file__).resolve().parent.parent
 SOURCES = ROOT / "crates" / "satcluster" / "src"
 ELSEWHERE = {"explain", "help", "read_cubes", "shown"}  # not on the way of `check INPUT PROOF`
-OTHERS = {"drafts", "elaboration_progress", "explain", "linked_runs", "listener", "progress",
-          "proof_file", "refute", "session", "cubes_complete", "identity", "solver", "solver_disk"}
+OTHERS = {"cell", "cell_folder", "drafts", "elaboration_progress", "explain", "linked_runs", "listener",
+          "progress", "proof_file", "refute", "session", "cubes_complete", "identity", "solver", "solver_disk"}
 
 
 class Function(NamedTuple):

@@ -8,7 +8,7 @@
 Prints each fault with its page and line, and ends with status 1 if there is one. --check finds
 a link to a file, or to a heading, that is not there; a path of a crate in code quotes that is not
 there; a line of more than 100 characters outside of code blocks and tables; a README of more than
-80 lines, or with a longer line anywhere; pages for people of more than 16,000 words by hand;
+80 lines, or with a longer line anywhere; pages for people of more than 16,700 words by hand;
 twelve words in a row that another page has too; a block of code whose language is not known; a file
 of share/ that is not what would be written; a CHANGELOG that does not begin with the program's
 version, or gives one another day than its tag. tools/page_blocks.py tells how --run compares.
@@ -31,7 +31,7 @@ README_LINES = 80
 PEOPLE = ("CHECKING", "SOLVING", "CLUSTER", "SESSIONS", "CLIENTS", "COMMANDS", "FORMATS", "FAULTS",
           "TRUST", "SPEED", "INSTALL")
 UNCOUNTED = ("FAULTS.md", "SPEED.md")
-PEOPLE_WORDS = 16000
+PEOPLE_WORDS = 16700
 RUN = 12  # so many words in a row stand on one page alone
 MADE = ("READING.md", "FAULTS.md")  # made by scripts, of the sources
 LANGUAGES = ("sh", "console", "python", "c", "text", "make", "yaml")

@@ -7,7 +7,7 @@ formula.
 
 A row has seconds by the clock until a proof stands: of the solver on the whole formula,
 `satcluster` being `solve --depth 0`; then, with one job and with N, of `conquer.py --no-race
---no-cuts` and of `conquer.py`; how many times as fast the leaves alone end with N jobs as with one,
+--no-cuts` and of `conquer.py --no-share` (`cell_times.py` times cells); how many times as fast the leaves alone end with N jobs as with one,
 by `--no-race`; and the last run with N jobs over the better of both ways without it. The least of R
 runs counts. `-` is a run that was ended after LIMIT seconds.
 """
@@ -83,7 +83,7 @@ class Bench:
         jobs, runs = (1, self.asked.jobs), self.asked.runs
         whole = least(self.whole, runs)
         before = [least(partial(self.run, n, "--no-race", "--no-cuts"), runs) for n in jobs]
-        after = [least(partial(self.run, n), runs) for n in jobs]
+        after = [least(partial(self.run, n, "--no-share"), runs) for n in jobs]
         one, many = [least(partial(self.leaves, n), runs) for n in jobs]
         better = min((s for s in (whole, before[1]) if s is not None), default=None)
         seconds = [whole, before[0], after[0], before[1], after[1]]

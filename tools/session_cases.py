@@ -261,6 +261,52 @@ def drawn(seed: int) -> Session:
     return Session(events, solver.proof)
 
 
+def sharing(seed: int) -> Tuple[List[Event], List[bool]]:
+    """Queries that begin as the one before them, with clauses in between that the front of these
+    assumptions makes false or unit; and by all assignments whether each query can be satisfied."""
+    draw = random.Random(seed)
+    variables = draw.sample([1, 2, 3, 4, 5, 6, 40, 70, 71, 150], draw.randrange(4, 10))
+    count = 1 << len(variables)
+    everything = (1 << count) - 1
+    true: Dict[int, int] = {}  # by literal: the assignments that make it true, a bit each
+    for place, variable in enumerate(variables):
+        true[variable] = sum(1 << at for at in range(count) if at >> place & 1)
+        true[-variable] = everything ^ true[variable]
+    left = everything
+    query: List[int] = []
+    events: List[Event] = []
+    answers: List[bool] = []
+
+    def give(clause: List[int]) -> None:
+        nonlocal left
+        events.append(Event(False, clause))
+        left &= union(clause)
+
+    def union(clause: List[int]) -> int:
+        found = 0
+        for literal in clause:
+            found |= true[literal]
+        return found
+
+    literal = lambda: draw.choice((1, -1)) * draw.choice(variables)
+    for _ in range(draw.randrange(len(variables), 2 * len(variables))):
+        give([literal() for _ in range(draw.choice((2, 3, 3, 3)))])
+    for _ in range(draw.randrange(5, 25)):
+        front = query[:draw.randrange(len(query) + 1)]
+        query = front + [literal() for _ in range(draw.randrange(4))]
+        if draw.random() < 0.2:
+            draw.shuffle(query)
+        events.append(Event(True, query))
+        found = left
+        for one in query:
+            found &= true[one]
+        answers.append(found != 0)
+        while draw.random() < 0.3:
+            negated = [-one for one in draw.sample(query, min(len(query), draw.randrange(4)))]
+            give(negated + [literal() for _ in range(draw.choice((0, 1, 1, 2)) if negated else 2)])
+    return events, answers
+
+
 def changed_line(line: str, draw: random.Random) -> str:
     """The line with another letter, another status, or with one number fewer, more or negated."""
     words = line.split(" ")

@@ -28,7 +28,8 @@ sys.dont_write_bytecode = True
 
 from cases import opened, pigeons, run
 from explanations.faults import TABLES
-from session_cases import STATUSES, Event, changes, drawn, events_text, expected, text_of
+from session_cases import (STATUSES, Event, changes, drawn, events_text, expected, sharing,
+                           text_of)
 
 HERE = Path(__file__).resolve().parent
 SECONDS = 60  # how long a run may take
@@ -430,6 +431,18 @@ class Answers(Case):
         (self.folder / "proof").write_text(self.proof())
         self.assertEqual(0, self.ends(self.start("events", "proof"))[0])
 
+    def test_steps(self) -> None:
+        """A query that is asked in steps learns the lemmas of one that is asked at once."""
+        clauses = [" ".join(["31", line]) for line in pigeons(5).split("\n")[1:-1]]
+        found: List[List[str]] = []
+        for limit in (10000, 7, 1):
+            text = "p inccnf\n%s\n" % "\n".join([*clauses, *["a 32 -31 0"] * (10000 // limit)])
+            status, lines = self.answer(text, "--limit", str(limit))
+            self.assertEqual((20, "f -31 0"), (status, lines[-1]))
+            found.append([line for line in self.proof().split("\n") if line[:1] == "l"])
+        self.assertLess(100, len(found[0]))
+        self.assertEqual([found[0]] * 2, found[1:])
+
     def test_faults(self) -> None:
         """The answers before a fault stand, and the proof is right for the events before it."""
         text = "p inccnf\n1 2 0\na -1 0\n-2 0\n%s\na 0\n"
@@ -485,6 +498,19 @@ class Answers(Case):
                 self.assertIn(one, (other, STATUSES[2]))
             self.assertEqual({"s SATISFIABLE": 10, "s UNSATISFIABLE": 20}[found[-1]], status)
             self.are_spelled(session.events, lines)
+
+    def test_sharing(self) -> None:
+        """Queries that share fronts of assumptions are answered as all assignments say; SHARING is
+        how many sessions are drawn."""
+        for seed in range(int(os.environ.get("SHARING", "300"))):
+            events, answers = sharing(seed)
+            status, lines = self.answer(events_text(events))
+            found = [line for line in lines if line[:1] == "s"]
+            self.assertEqual([STATUSES[0 if one else 1] for one in answers], found, seed)
+            self.assertEqual(10 if answers[-1] else 20, status)
+            text = self.proof()
+            checked = self.check(events_text(events), text)
+            self.assertEqual((0, "s VERIFIED"), (checked[0], checked[1][0]), seed)
 
     def are_spelled(self, events: List[Event], lines: List[str]) -> None:
         """A model has each variable so far, and a core has literals of its query in their order."""

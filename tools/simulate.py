@@ -14,6 +14,7 @@ is played as it was: it is not cut, and not made anew for other numbers of cores
 import argparse
 import heapq
 import itertools
+import json
 import os
 import sys
 from dataclasses import dataclass, field, replace
@@ -46,6 +47,8 @@ def measured(path: str) -> List[Measured]:
     if not os.path.isdir(os.path.join(path, "trees")):  # which a `Folder` would make
         raise Fault("c %s is no folder of conquer.py" % path)
     folder = Folder(path)
+    if json.loads(folder.at("plan.json").read_text()).get("workers"):
+        raise Fault("c %s is of a cell, which has no jobs: make a run with --no-share" % path)
     jobs = {cube: record for record in Records(folder).all()
             if record.outcome == CLOSED and not is_race(record) for cube in record.cubes}
     cubes = uncut(read_cubes(folder.at("trees", "%d.icnf" % folder.newest_tree())), jobs)

@@ -7,6 +7,8 @@ splitting tree, one proof of all, and a folder for referees.
     leaf       a leaf's job: the commands that it runs in turn, and its record
     closings   which part of a block's log is of which leaf
     run        the leaves that wait, run and are closed; `join` and `cover`
+    cell       workers that share what they learn; `weave`
+    mending    files of a cell that are spoilt
     race       the job that searches the whole formula, beside the jobs of leaves
     cuts       which leaf is cut in two if a core is idle
     engines    what starts the jobs: this process, make, GNU parallel or Slurm
@@ -17,6 +19,7 @@ splitting tree, one proof of all, and a folder for referees.
     progress   the line that tells what is closed, and how much time is left
     figures    the numbers of the report
     report     the report, an HTML page, with pictures and CSV beside it
+    usage      who has used whose lemmas in a cell
     summary    the last lines at a terminal
     bundle     the folder for referees
     published  `satcluster-publish`

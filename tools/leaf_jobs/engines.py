@@ -184,7 +184,7 @@ def now(jobs: List[Job], race: Optional[Race], most: int) -> Now:
     began = [ended[-1].end if ended else job.begin for job, ended in zip(jobs, turns)]
     left = [max(0, len(job.leaf.behind) - len(ended)) for job, ended in zip(jobs, turns)]
     closed = sum(turn.outcome == CLOSED for ended in turns for turn in ended)
-    return Now([moment - begin for begin in began], left, race is not None, most, closed)
+    return Now([moment - begin for begin in began], left, int(race is not None), most, closed)
 
 
 def times_of(begin: float, turns: Sequence[Turn]) -> List[float]:

@@ -70,6 +70,7 @@ class State:
     own: FrozenSet[Cube]
     covered: FrozenSet[Cube]
     records: List[Record]
+    workers: int = 0  # of a cell
 
     def last(self) -> Dict[Cube, Record]:
         """The last job of each leaf, or its share of a block's."""
@@ -96,7 +97,10 @@ class State:
             yield "leaves that were cut", "{:,}".format(len(cut))
             as_one = sum(job.outcome == CLOSED for job in cut)
             yield "of these closed as one", "{:,}".format(as_one)
-        yield "jobs", "{:,}".format(len(self.records))
+        if self.workers:
+            yield "workers at a time", "{:,}".format(self.workers)
+        else:
+            yield "jobs", "{:,}".format(len(self.records))
         yield "by the clock", told(ran(self.records))
         yield "time of all jobs", told(whole)
         memory = max((record.memory for record in self.records), default=0)
@@ -108,7 +112,8 @@ class State:
             yield "mean of a leaf", told(sum(times) / len(times))
             yield "median", told(times[len(times) // 2])
             yield "longest", "%s, %.0f%% of all" % (took(longest), 100 * times[-1] / whole)
-            yield "logs", size(sum(job.bytes for job in jobs + cut))
+            if not self.workers:
+                yield "logs", size(sum(job.bytes for job in jobs + cut))
         lemmas = sum(record.lemmas for record in self.records)
         if lemmas:
             yield "lemmas in logs", "{:,}".format(lemmas)
@@ -120,4 +125,4 @@ def state_of(run: Run, records: List[Record], is_refuted: bool) -> State:
     own = leaves & run.done - covered
     if is_refuted:  # `join` has found all leaves closed: those without a log by others' logs
         covered = leaves - own
-    return State(run.cubes, own, covered, records)
+    return State(run.cubes, own, covered, records, run.plan.workers)

@@ -96,6 +96,7 @@ class Plan:
     rechecks: bool = False  # whether only receipts are made, of logs, and nothing is searched
     large: bool = False  # whether the formula's header asks for `--large`
     binary: bool = False  # whether the joined proof is in binary form
+    workers: int = 0  # of a cell; 0: each leaf is a job
 
     def limits(self) -> List[str]:
         """The word for the limits on the formula."""

@@ -70,6 +70,7 @@ class Process(subprocess.Popen):
     script's memory."""
 
     memory = 0  # bytes
+    used = 0.0  # seconds of the processor
     lines: Optional[Lines] = None  # that hear what it prints
     output: Optional[IO[bytes]] = None  # to which what was heard is written
 
@@ -114,6 +115,7 @@ class Process(subprocess.Popen):
             is_killed = os.WIFSIGNALED(status)
             self.returncode = -os.WTERMSIG(status) if is_killed else os.WEXITSTATUS(status)
             self.memory = used.ru_maxrss * UNIT
+            self.used = used.ru_utime + used.ru_stime
         return self.returncode
 
 

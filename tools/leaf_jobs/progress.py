@@ -23,7 +23,7 @@ class Now:
 
     elapsed: Sequence[float] = ()  # the seconds that each job has searched its present leaf
     behind: Sequence[int] = ()  # how many leaves each has beside that one; none if left out
-    races: bool = False  # whether one more job searches the whole formula
+    races: int = 0  # how many more jobs search the whole formula
     most: int = 1  # how many jobs may run
     searched: int = 0  # leaves that jobs have closed which still run
 
@@ -80,7 +80,9 @@ class Times:
 def line(closed: int, leaves: int, now: Now, gone: float, left: str, cut: int, width: int) -> str:
     """What is known, as far as there is room: no word is cut."""
     runs = "%s on %s" % (counted(len(now.elapsed), "job", "jobs"),
-                         counted(now.leaves, "leaf", "leaves")) + " + 1 unsplit" * now.races
+                         counted(now.leaves, "leaf", "leaves"))
+    unsplit = "%d unsplit" % now.races if now.races else ""
+    runs = " + ".join(filter(None, [runs, unsplit])) if now.elapsed else unsplit or runs
     parts = ["c %d of %d leaves closed" % (closed, leaves), "%s gone" % clock(gone), left, runs,
              "%d cut" % cut if cut else ""]
     kept = parts[:1]

@@ -14,7 +14,7 @@ import math
 import os
 import time
 from pathlib import Path
-from typing import Dict, Iterable, Iterator, List, Optional, Tuple
+from typing import Dict, Iterable, Iterator, List, Optional, Sequence, Tuple
 
 from leaf_jobs import places
 from leaf_jobs.figures import (State, breaks_of, megabytes, size, spent, state_of, told, took)
@@ -22,6 +22,7 @@ from leaf_jobs.files import Cube, digest
 from leaf_jobs.leaf import CLOSED, LIMIT, Plan, Record, Records
 from leaf_jobs.run import ALL_COVERED, NOT_COVERED, Run
 from leaf_jobs.screen import Screen
+from leaf_jobs.usage import Usage, usages
 
 WIDTH = 1160  # of each picture, in pixels
 NARROW = 1.5  # what is narrower than this is drawn with its neighbours
@@ -276,6 +277,18 @@ def table(state: State, last: Dict[Cube, Record]) -> str:
     return "<table>%s</table>" % "\n".join(lines)
 
 
+def shared(found: Sequence[Usage]) -> str:
+    """A row for each worker of a cell: what it has learnt, and what it has taken over from whom."""
+    heads = "".join("<th>of %d" % place for place in range(1, len(found) + 1))
+    rows = ["<tr><th>worker<th>learnt<th>taken over%s" % heads]
+    for place, one in enumerate(found, 1):
+        numbers = [one.lemmas, sum(one.used.values())] + [one.used.get(other.name, 0)
+                                                          for other in found]
+        cells = "".join("<td>{:,}".format(number) for number in numbers)
+        rows.append("<tr><td>%d%s" % (place, cells))
+    return SHARED + framed("<table>%s</table>" % "\n".join(rows))
+
+
 BESIDE = ("tree.svg", "timeline.svg", "leaves.csv")  # files beside the report
 NONE = 1  # the status of a run that was ended before it had an answer
 ANSWERS = {20: "s UNSATISFIABLE", 10: "s SATISFIABLE", 0: "s UNKNOWN", ALL_COVERED: "s COVERED",
@@ -288,6 +301,8 @@ job with several leaves that the leaf's log is of the job's.</p>"""
 CURVE = "<h2>Leaves by time</h2><p>The longest first; each line up is ten times as long.</p>"
 LANES = """<h2>Workers</h2><p>Which job ran when. Dashed lines are times at which nothing ran; a red
 edge is a job that closed nothing.</p>"""
+SHARED = """<h2>Who used whose lemmas</h2><p>By the logs of the cell's workers: how many lemmas each
+has learnt, and how many it has taken over from each other one.</p>"""
 
 
 def scale_of(state: State, last: Dict[Cube, Record]) -> Scale:
@@ -298,7 +313,7 @@ def scale_of(state: State, last: Dict[Cube, Record]) -> Scale:
 
 
 def page(name: str, how: str, state: State, status: Optional[int],
-         more: Iterable[Tuple[str, str]] = ()) -> str:
+         more: Iterable[Tuple[str, str]] = (), used: Sequence[Usage] = ()) -> str:
     last = state.last()
     scale, title = scale_of(state, last), html.escape(os.path.basename(name))
     shown = [spent(last[cube]) for cube in state.cubes if cube in state.own and cube in last]
@@ -313,6 +328,8 @@ def page(name: str, how: str, state: State, status: Optional[int],
         body += [CURVE, framed(curve(shown, scale))]
     if state.records:
         body += [LANES, framed(workers(state.records, scale))]
+    if used:
+        body.append(shared(used))
     only = ", the %d longest" % ROWS if len(state.cubes) > ROWS else ""
     body.append("<h2>The leaves%s</h2>%s" % (only, framed(table(state, last))))
     head = '<meta charset="utf-8"><meta name="viewport" content="width=device-width">'
@@ -342,6 +359,8 @@ def listed(state: State) -> str:
 def how_of(plan: Plan, cuts: int) -> str:
     """By what the formula was split and its leaves were searched."""
     how = "satcluster refute"
+    if plan.workers:
+        how = "satcluster share, %d workers" % plan.workers
     if plan.solver:
         how = " && ".join(" ".join([os.path.basename(word), *more])
                           for word, *more in plan.solver)
@@ -363,7 +382,8 @@ class Report:
         state = state_of(run, self.records.all(), status in (20, ALL_COVERED))
         more = [] if status is None else list(self.origin(status))
         how = how_of(run.plan, run.number - 1) + now
-        self.put("report.html", page(run.plan.input, how, state, status, more))
+        used = usages(run.folder.at("cell")) if run.plan.workers and status is not None else []
+        self.put("report.html", page(run.plan.input, how, state, status, more, used))
         if status is not None:
             last = state.last()
             scale = scale_of(state, last)

@@ -18,9 +18,11 @@ def lines(run: Run, status: int, formula: str, proof: Optional[str], jobs: int) 
     lemmas = sum(record.lemmas for record in records)
     verdict = ANSWERS[status].replace("s ", "", 1)
     most = ", %d job%s at a time" % (jobs, "s" * (jobs != 1)) if jobs else ""
+    most = ", by %d workers" % run.plan.workers if run.plan.workers else most
     yield "%s after %s%s" % (verdict, clock(time.monotonic() - run.began), most)
     found = ", {:,} conflicts".format(lemmas) if run.plan.solver is None and lemmas else ""
-    yield "%d jobs took %s together%s" % (len(records), clock(sum(map(spent, records))), found)
+    who = "%d jobs" % len(records) if run.plan.workers == 0 else "they"
+    yield "%s took %s together%s" % (who, clock(sum(map(spent, records))), found)
     if status == 20 and proof:
         words = [word_of(run.plan.program), "check", *run.plan.limits(), formula, proof]
         yield "proof: %s, %s; to check it:" % (proof, size(os.path.getsize(proof)))

@@ -3,7 +3,7 @@ use Rattle.std.proofs.Common.{◌≡◌, ◌∙◌, List, codes}
 use Rattle.clap.specs.Words.{Row, Text}
 use Rattle.command_line.specs.CommandLine.{Makes}
 use Rattle.command_line.specs.declared.request.Request.{Request}
-use Rattle.command_line.specs.declared.request.Request.TheVariants.{Check, Complete, Cover, Cubes, Decide, Drill, Elaborate, Join, Leaf, Lift, Look, Model, Receipt, Refute, Serve, Session, Solve, Split, SplitByLook, Trim, Work}
+use Rattle.command_line.specs.declared.request.Request.TheVariants.{Check, Complete, Cover, Cubes, Decide, Drill, Elaborate, Join, Leaf, Lift, Look, Model, Receipt, Refute, Serve, Session, Share, Solve, Split, SplitByLook, Trim, Weave, Work}
 
 -- the name is that of no command
 pub record IsNoCommand (name : Text) : Type 0 where
@@ -24,6 +24,8 @@ pub record IsNoCommand (name : Text) : Type 0 where
   pub no_receipt : name ≡ codes "receipt" → ⊥
   pub no_cover : name ≡ codes "cover" → ⊥
   pub no_session : name ≡ codes "session" → ⊥
+  pub no_share : name ≡ codes "share" → ⊥
+  pub no_weave : name ≡ codes "weave" → ⊥
 
 -- such a name makes no request
 pub makes_none : (read name : Text) (rows : List Row) → read ≡ name → IsNoCommand read → (request : Request) → Makes name rows request → ⊥
@@ -48,3 +50,5 @@ makes_none read name rows is none (Elaborate input drat lrat progress binary) ma
 makes_none read name rows is none (Receipt input cubes log receipt) makes = none.no_receipt (is ∙ makes.0)
 makes_none read name rows is none (Cover input cubes receipts quiet) makes = none.no_cover (is ∙ makes.0)
 makes_none read name rows is none (Session input proof limit witness) makes = none.no_session (is ∙ makes.0)
+makes_none read name rows is none (Share input folder cubes leaf seed limit turn printing) makes = none.no_share (is ∙ makes.0)
+makes_none read name rows is none (Weave input folder log cubes binary) makes = none.no_weave (is ∙ makes.0)

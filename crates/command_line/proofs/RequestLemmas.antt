@@ -8,7 +8,7 @@ use Rattle.command_line.specs.Program.{program}
 use Rattle.command_line.specs.declared.options.Options.{Options}
 use Rattle.command_line.specs.declared.output.Printing.{Printing}
 use Rattle.command_line.specs.declared.request.Request.{Request}
-use Rattle.command_line.specs.declared.request.Request.TheVariants.{Check, Complete, Cover, Cubes, Decide, Drill, Elaborate, Join, Leaf, Lift, Look, Model, Receipt, Refute, Serve, Session, Solve, Split, SplitByLook, Trim, Work}
+use Rattle.command_line.specs.declared.request.Request.TheVariants.{Check, Complete, Cover, Cubes, Decide, Drill, Elaborate, Join, Leaf, Lift, Look, Model, Receipt, Refute, Serve, Session, Share, Solve, Split, SplitByLook, Trim, Weave, Work}
 
 -- two names that a test tells apart
 pub differ : (a b : Text) → bytes_eq a b ≡ false → bytes_eq b b ≡ true → a ≡ b → ⊥
@@ -37,6 +37,8 @@ name_of (Elaborate input drat lrat progress binary) = codes "elaborate"
 name_of (Receipt input cubes log receipt) = codes "receipt"
 name_of (Cover input cubes receipts quiet) = codes "cover"
 name_of (Session input proof limit witness) = codes "session"
+name_of (Share input folder cubes leaf seed limit turn printing) = codes "share"
+name_of (Weave input folder log cubes binary) = codes "weave"
 
 is_named : (name : Text) (rows : List Row) (r : Request) → Makes name rows r → name ≡ name_of r
 is_named name rows (Check input proof session drat progress) makes = makes.0
@@ -60,6 +62,8 @@ is_named name rows (Elaborate input drat lrat progress binary) makes = makes.0
 is_named name rows (Receipt input cubes log receipt) makes = makes.0
 is_named name rows (Cover input cubes receipts quiet) makes = makes.0
 is_named name rows (Session input proof limit witness) makes = makes.0
+is_named name rows (Share input folder cubes leaf seed limit turn printing) makes = makes.0
+is_named name rows (Weave input folder log cubes binary) makes = makes.0
 
 pub only_check : (rows : List Row) → ((input : Bor Text) (proof : Bor Text) (session drat progress : Bool) → Makes (codes "check") rows (Check input proof session drat progress) → ⊥) → (r : Request) → Makes (codes "check") rows r → ⊥
 only_check rows none (Check input proof session drat progress) makes = none input proof session drat progress makes
@@ -146,6 +150,14 @@ only_cover rows none other makes = differ (codes "cover") (name_of other) refl r
 pub only_session : (rows : List Row) → ((input : Bor Text) (proof : Option (Bor Text)) (limit : Option ℕ) (witness : Bool) → Makes (codes "session") rows (Session input proof limit witness) → ⊥) → (r : Request) → Makes (codes "session") rows r → ⊥
 only_session rows none (Session input proof limit witness) makes = none input proof limit witness makes
 only_session rows none other makes = differ (codes "session") (name_of other) refl refl (is_named (codes "session") rows other makes)
+
+pub only_share : (rows : List Row) → ((input : Bor Text) (folder : Bor Text) (cubes : Option (Bor Text)) (leaf seed limit : Option ℕ) (turn : ℕ) (printing : Printing) → Makes (codes "share") rows (Share input folder cubes leaf seed limit turn printing) → ⊥) → (r : Request) → Makes (codes "share") rows r → ⊥
+only_share rows none (Share input folder cubes leaf seed limit turn printing) makes = none input folder cubes leaf seed limit turn printing makes
+only_share rows none other makes = differ (codes "share") (name_of other) refl refl (is_named (codes "share") rows other makes)
+
+pub only_weave : (rows : List Row) → ((input : Bor Text) (folder : Bor Text) (log : Bor Text) (cubes : Option (Bor Text)) (binary : Bool) → Makes (codes "weave") rows (Weave input folder log cubes binary) → ⊥) → (r : Request) → Makes (codes "weave") rows r → ⊥
+only_weave rows none (Weave input folder log cubes binary) makes = none input folder log cubes binary makes
+only_weave rows none other makes = differ (codes "weave") (name_of other) refl refl (is_named (codes "weave") rows other makes)
 
 some_same : {X : Type 0} (a b : X) → Some a ≡ Some b → a ≡ b
 some_same a b e = cc

@@ -12,7 +12,7 @@ use Rattle.command_line.specs.declared.commands.run_words.Place.TheVariants.{AtP
 use Rattle.command_line.specs.declared.options.Options.{Options}
 use Rattle.command_line.specs.declared.output.Printing.{Printing}
 use Rattle.command_line.specs.declared.request.Request.{Request}
-use Rattle.command_line.specs.declared.request.Request.TheVariants.{Check, Complete, Cover, Cubes, Decide, Drill, Elaborate, Join, Leaf, Lift, Look, Model, Receipt, Refute, Serve, Session, Solve, Split, SplitByLook, Trim, Work}
+use Rattle.command_line.specs.declared.request.Request.TheVariants.{Check, Complete, Cover, Cubes, Decide, Drill, Elaborate, Join, Leaf, Lift, Look, Model, Receipt, Refute, Serve, Session, Share, Solve, Split, SplitByLook, Trim, Weave, Work}
 use Rattle.command_line.specs.declared.request.UsageFault.{UsageFault}
 use Rattle.command_line.specs.declared.request.UsageFault.TheVariants.{Help, NoMemory, Usage}
 
@@ -170,6 +170,14 @@ Makes name rows (Cover input cubes receipts quiet) =
 Makes name rows (Session input proof limit witness) =
     (name ≡ codes "session") × NamesFile rows (codes "INPUT") (Some input) × NamesAnyNumber rows (codes "limit") 1 1000000000 limit
     × NamesFile rows (codes "PROOF") proof × NamesFlag rows (codes "no-witness") (not witness)
+Makes name rows (Share input folder cubes leaf seed limit turn printing) =
+    (name ≡ codes "share") × NamesFile rows (codes "INPUT") (Some input) × NamesFile rows (codes "FOLDER") (Some folder)
+    × NamesFile rows (codes "cubes") cubes × NamesAnyNumber rows (codes "leaf") 1 (2 ^ 32 - 1) leaf
+    × NamesAnyNumber rows (codes "seed") 0 (2 ^ 64 - 1) seed × NamesAnyNumber rows (codes "limit") 1 1000000000 limit
+    × NamesNumberOr rows (codes "turn") 1 1000000 300 turn × NamesPrinting rows printing
+Makes name rows (Weave input folder log cubes binary) =
+    (name ≡ codes "weave") × NamesFile rows (codes "INPUT") (Some input) × NamesFile rows (codes "FOLDER") (Some folder)
+    × NamesFile rows (codes "LOG") (Some log) × NamesFile rows (codes "cubes") cubes × NamesFlag rows (codes "binary") binary
 
 -- the words are within the rules of the command line
 pub record AreTaken (words : List Text) : Type 0 where
@@ -247,3 +255,5 @@ IsInRange (Elaborate input drat lrat progress binary) = ⊤
 IsInRange (Receipt input cubes log receipt) = ⊤
 IsInRange (Cover input cubes receipts quiet) = 1 ≤ length receipts.items
 IsInRange (Session input proof limit witness) = IfSome limit IsLemmaLimit
+IsInRange (Share input folder cubes leaf seed limit turn printing) = IfSome leaf IsLeafNumber × IfSome limit IsLemmaLimit × (1 ≤ turn) × (turn ≤ 1000000)
+IsInRange (Weave input folder log cubes binary) = ⊤

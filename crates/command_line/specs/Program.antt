@@ -140,6 +140,20 @@ session_app =
     with_rule (with_rule (with_rule (with_rule (large_app (codes "session")) (any_number_rule (codes "limit") 1 1000000000)) (flag_rule (codes "no-witness") (byte "n")))
     (file_rule (codes "INPUT") true)) (file_rule (codes "PROOF") false)
 
+-- `share [--large] [--cubes FILE] [--leaf I] [--seed S] [--limit L] [--turn N] [-q] [-n] INPUT FOLDER`: I from 1 to 4,294,967,295, S any number
+-- of 64 bits, L from 1 to 1,000,000,000, and N from 1 to 1,000,000, by default 300
+abbrev pub share_app : App
+share_app =
+    with_rule (with_rule (with_printing (with_rule (with_rule (with_rule (with_rule (with_rule (large_app (codes "share")) (named_file_rule (codes "cubes")))
+    (any_number_rule (codes "leaf") 1 (2 ^ 32 - 1))) (any_number_rule (codes "seed") 0 (2 ^ 64 - 1))) (any_number_rule (codes "limit") 1 1000000000))
+    (number_rule (codes "turn") 1 1000000 (codes "300")))) (file_rule (codes "INPUT") true)) (file_rule (codes "FOLDER") true)
+
+-- `weave [--large] [--cubes FILE] [--binary] INPUT FOLDER LOG`
+abbrev pub weave_app : App
+weave_app =
+    with_rule (with_rule (with_rule (with_binary (with_rule (large_app (codes "weave")) (named_file_rule (codes "cubes")))) (file_rule (codes "INPUT") true))
+    (file_rule (codes "FOLDER") true)) (file_rule (codes "LOG") true)
+
 -- the program without its commands: it has a version, and a command has to be named
 abbrev pub bare_program : App
 bare_program = on_top (λ s. record s { has_version = true; subcommand_required = true }) (new_app (codes "satcluster"))
@@ -160,6 +174,10 @@ with_leaves a =
 abbrev pub with_receipts : App → App
 with_receipts a = with_subcommand (with_subcommand (with_subcommand a receipt_app.top) cover_app.top) session_app.top
 
+-- with the commands on cells
+abbrev pub with_cells : App → App
+with_cells a = with_subcommand (with_subcommand a share_app.top) weave_app.top
+
 -- the program with all commands
 abbrev pub program : App
-program = with_receipts (with_leaves (with_formulas bare_program))
+program = with_cells (with_receipts (with_leaves (with_formulas bare_program)))

@@ -12,7 +12,7 @@ ghost use Rattle.option_table.specs.Rules.{app_of_program};
 use crate::commands::words::is_given;
 use crate::commands::{
     check, cover, cubes, decide, drill, elaborate, join, leaf, lift, model, receipt, refute, serve,
-    session, solve, trim, work,
+    session, share, solve, trim, weave, work,
 };
 use crate::request::{Command, Request, UsageFault};
 use option_table::{Found, ProgramRules, Refusal, parse};
@@ -74,6 +74,8 @@ fn given_of<'a>(alloc: Global, words: &'a [&'a str]) -> Result<Found<'a>, Refusa
         receipt::rules(),
         cover::rules(),
         session::rules(),
+        share::rules(),
+        weave::rules(),
     ];
     let rules = ProgramRules {
         name: "satcluster",
@@ -121,6 +123,8 @@ fn request_of<'a>(alloc: Global, given: &Found<'a>) -> Result<Option<Request<'a>
         "receipt" => Ok(receipt::asked(given)),
         "cover" => cover::asked(alloc, given),
         "session" => Ok(session::asked(given)),
+        "share" => Ok(share::asked(given)),
+        "weave" => Ok(weave::asked(given)),
         _ => Ok(None),
     }
 }

@@ -177,6 +177,27 @@ pub enum Request<'a> {
         limit: Option<u64>,
         witness: bool,
     },
+    /// Search as one worker of a cell, whose files are in a folder, under the formula or under a leaf, by its number among the cubes of a
+    /// file, from 1 to 4,294,967,295. A seed gives the first order of the variables; else it is drawn. At most `limit` lemmas are learnt,
+    /// from 1 to 1,000,000,000, or any number; `turn` of them, from 1 to 1,000,000, before others' lemmas are read again.
+    Share {
+        input: &'a str,
+        folder: &'a str,
+        cubes: Option<&'a str>,
+        leaf: Option<u32>,
+        seed: Option<u64>,
+        limit: Option<u64>,
+        turn: u64,
+        printing: Printing,
+    },
+    /// Weave the logs of a cell in a folder into one log, and write it to a file: for the whole formula, or for the cubes of a file.
+    Weave {
+        input: &'a str,
+        folder: &'a str,
+        log: &'a str,
+        cubes: Option<&'a str>,
+        binary: bool,
+    },
 }
 
 /// A request, and whether the limits on its input are the large ones.

@@ -24,8 +24,10 @@ mod OfLemmas
 mod PartLemmas
 mod ReceiptLemmas
 mod SessionLemmas
+mod ShareLemmas
 mod SolverLemmas
 mod TextLemmas
 mod TreeLemmas
 mod TrimLemmas
+mod WeaveLemmas
 mod WritingLemmas

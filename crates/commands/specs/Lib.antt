@@ -17,7 +17,9 @@ pub mod SessionLines
 pub mod SessionMoments
 pub mod Solver
 pub mod Model
+pub mod Share
 pub mod Trees
 pub mod Trim
+pub mod Weave
 pub mod Written
 pub mod inner

@@ -15,3 +15,4 @@ pub mod Receipts
 pub mod Model
 pub mod Texts
 pub mod Trim
+pub mod Weave

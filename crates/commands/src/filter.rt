@@ -102,7 +102,7 @@ impl<D: Drafts, P: Filter> Feeds for FilterRun<'_, D, P> {
 /// Does with the written file what the filter's ending says: appends the last bytes and puts it at
 /// its path, or removes it. Answers the filter's report. A file that cannot be written or put there
 /// is removed, and that is an error.
-fn keep_or_remove<D: Drafts>(
+pub(crate) fn keep_or_remove<D: Drafts>(
     disk: &mut D,
     mut part: Part<D::Draft>,
     ending: Ending,

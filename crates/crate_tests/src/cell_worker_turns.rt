@@ -36,7 +36,7 @@ fn a_worker_takes_over_a_lemma(rt: HostRuntime) -> Result<(), Fail> {
     );
     let turn = second.turn(&[], 0).expect(&rt, "memory");
     assert!(rt; matches!(turn, Turn::Closed(6)));
-    assert!(rt; second.written() == b"w 1 a 0\ne 1 0\n5 i 1 0 1 5 0\n6 0 5 4 2 0\n".as_slice());
+    assert!(rt; second.written() == b"w 1 a 0\ne 1 0\n5 i 1 0 1 5 0\n6 0 5 2 4 0\n".as_slice());
     assert!(rt; second.offered() == b"1 6 0\n".as_slice());
     Ok(())
 }

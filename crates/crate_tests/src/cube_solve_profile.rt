@@ -173,10 +173,10 @@ fn course(rt: &impl Abort, alloc: Global, base: &Base, limit: u64) -> u64 {
 const LIMITS: (u64, u64, u64, u64) = (200, 1200, 2700, 6000);
 
 const DIGESTS: (u64, u64, u64, u64) = (
-    10866217410755790172,
-    14893062956026013742,
-    14418251343604086982,
-    2512913286298192230,
+    7158750054415200697,
+    17435167404302315649,
+    11944888001951177138,
+    8012342352141193753,
 );
 
 /// The digests change if a search bumps, saves values, minimises, restarts, changes its phase or forgets in another way.

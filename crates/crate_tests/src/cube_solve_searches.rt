@@ -99,7 +99,7 @@ fn bases_and_cubes_that_are_refuted(rt: HostRuntime) -> Result<(), Fail> {
             b"p cnf 1 2\n1 0\n-1 0\n",
             0,
             0,
-            Want::Refuted(b"3 0 2 1 0\n"),
+            Want::Refuted(b"3 0 1 2 0\n"),
         ),
         (b"p cnf 1 2\n1 0\n0\n", 0, 0, Want::Refuted(b"3 0 2 0\n")),
     ];

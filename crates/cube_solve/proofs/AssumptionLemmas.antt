@@ -102,7 +102,7 @@ assuming_begins cube es none = record {
 }
 
 -- a decision opened a level
-decided_above : (live : Live) (front es : List Assigned) → AreBuilt live front es → (e : Assigned) → Contains es e → e.reason ≡ None → 1 ≤ e.level
+pub decided_above : (live : Live) (front es : List Assigned) → AreBuilt live front es → (e : Assigned) → Contains es e → e.reason ≡ None → 1 ≤ e.level
 decided_above live front [] h e i r = absurd (Contains-nil e i)
 decided_above live front (x ∷ es) h e i r = elim (Contains-cons_cases x e es i) [
   | inl q ↦ elim h.0 [
@@ -130,6 +130,13 @@ assuming_cut cube es kept gone a level w high low h = record {
       | inr ge ↦ inr (λ l i. sym (up_to_front kept gone a l (All-weaker (λ e. level < e.level) (λ e. a < e.level) (λ e q. omega arith) gone high)) ∙ subst (λ xs. up_to xs a l ≡ true) w (f l i))
     ]
   ];
+}
+
+-- the levels that are kept are assumed from now on
+pub assuming_shared : (cube : List Literal) (es kept gone : List Assigned) (a : ℕ) → es ≡ kept ++ gone → All (λ e. e.level ≤ a) kept → AreAssumed cube es a → IsAssuming cube kept a
+assuming_shared cube es kept gone a w low h = record {
+  decided = λ e i. h e (subst (λ xs. Contains xs e) (sym w) (Contains-append_left kept gone e i));
+  full = inl (present_le kept a low);
 }
 
 -- above the assumed levels the cube is true

@@ -8,6 +8,7 @@ use Rattle.dimacs.specs.logic.ClauseMap.{Live}
 use Rattle.dimacs.specs.logic.Literal.{Literal, Clause, IsWithin, negation}
 use Rattle.dimacs.specs.logic.Propagation.{IsUnit}
 use Rattle.dimacs.proofs.Members.{Contains-head, Contains-cons, Contains-cons_cases}
+use Rattle.clause_arena.specs.Clauses.{Clauses}
 use Rattle.decide_heap.specs.Decisions.{Decisions}
 use Rattle.lrat_text.specs.Log.{Cube}
 use Rattle.watches.specs.declared.trail.Assigned.{Assigned}
@@ -133,10 +134,10 @@ module _ (es fs : List Assigned) (l : Literal) (n : ℕ) (x : IsExplained es fs 
     ];
   }
 
-pub order_alike : (t u : TrailValue) (d : Decisions) → u.vars ≡ t.vars → SameUpToReasons t.entries u.entries → IsOrder t d → IsOrder u d
-order_alike t u d v a o = record {
+pub order_alike : (m : Clauses) (t u : TrailValue) (d : Decisions) → u.vars ≡ t.vars → SameUpToReasons t.entries u.entries → IsOrder m t d → IsOrder m u d
+order_alike m t u d v a o = record {
   vars = o.vars ∙ sym v;
-  waits = λ l h. o.waits l (record {
+  waits = λ l i h. o.waits l i (record {
     within = subst (λ n. IsWithin n l) v h.within;
     not_true = sym (holds_alike t.entries u.entries a l) ∙ h.not_true;
     not_false = sym (holds_alike t.entries u.entries a (negation l)) ∙ h.not_false;

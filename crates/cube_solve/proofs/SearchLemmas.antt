@@ -21,7 +21,7 @@ use Rattle.lrat_text.specs.declared.step.Step.TheVariants.{Add}
 use Rattle.lrat_text.proofs.ClauseMapLemmas.{not_in, numbered_between, numbered_at}
 use Rattle.lrat_text.proofs.LineLemmas.{spells_step_more, written_spells_within, written_one_line_within}
 use Rattle.watches.specs.declared.trail.Assigned.{Assigned}
-use Rattle.watches.specs.Law.{NoneFalseOrUnit, SameUpToOrder, NeitherFalseNorUnit, IsConflict}
+use Rattle.watches.specs.Law.{NoneFalseOrUnit, SameUpToOrder, IsConflict}
 use Rattle.watches.specs.Trails.{TrailValue, IsTrailValue, holds, present, up_to}
 use Rattle.watches.proofs.TrailLemmas.{head_alone}
 use Rattle.conflict_analysis.specs.BuiltTrails.{AreBuilt}
@@ -188,20 +188,23 @@ limited B q limit n number att m t a text h assumes s v c above e =
       },
     )
 
-true_or_false : (t : TrailValue) (C : Clause) → ((l : Literal) → Contains C l → IsWithin t.vars l) → IsTotal t
+true_or_false : (t : TrailValue) (C : Clause) → ((l : Literal) → Contains C l → IsWithin t.vars l) → ((l : Literal) → Contains C l → (holds t.entries l ≡ true) ⊎ (holds t.entries (negation l) ≡ true))
     → ((l : Literal) × Contains C l × (holds t.entries l ≡ true) × IsWithin t.vars l) ⊎ IsFalse (holds t.entries) C
 true_or_false t [] b h = inr (λ m i. absurd (Contains-nil m i))
-true_or_false t (x ∷ C) b h = elim (h x (b x (Contains-head x C))) [
+true_or_false t (x ∷ C) b h = elim (h x (Contains-head x C)) [
   | inl y ↦ inl (x, Contains-head x C, y, b x (Contains-head x C))
-  | inr y ↦ elim (true_or_false t C (λ l i. b l (Contains-cons x l C i)) h) [
+  | inr y ↦ elim (true_or_false t C (λ l i. b l (Contains-cons x l C i)) (λ l i. h l (Contains-cons x l C i))) [
     | inl z ↦ inl (z.0, Contains-cons x z.0 C z.1, z.2, z.3)
     | inr z ↦ inr (λ m i. elim (Contains-cons_cases x m C i) [ inl e ↦ subst (λ k. holds t.entries (negation k) ≡ true) e y | inr j ↦ z m j ])
   ]
 ]
 
-pub calm_is_true : (t : TrailValue) (C : Clause) → ((l : Literal) → Contains C l → IsWithin t.vars l) → IsTotal t → NeitherFalseNorUnit (holds t.entries) C
+pub calm_is_true : (att : List ℕ) (m : Clauses) (t : TrailValue) → IsState att m t → NoneFalseOrUnit (live_of m) (holds t.entries) → IsTotal m t → (n : ℕ) (C : Clause) → live_of m n C
     → (l : Literal) × Contains C l × (holds t.entries l ≡ true) × IsWithin t.vars l
-calm_is_true t C b h k = elim (true_or_false t C b h) [ inl y ↦ y | inr f ↦ absurd (k.0 f) ]
+calm_is_true att m t s calm total n C i = elim (true_or_false t C (λ l k. All-contains (IsWithin t.vars) C l (s.inside n C i) k) (λ l k. total l (n, C, i, k))) [
+  | inl y ↦ y
+  | inr f ↦ absurd ((calm n C i).0 f)
+]
 
 -- each clause of the base has a literal on the trail, and so has the cube all of its own
 pub record Satisfies (B : Cnf) (q : Cube) (t : TrailValue) : Type 0 where
@@ -210,12 +213,12 @@ pub record Satisfies (B : Cnf) (q : Cube) (t : TrailValue) : Type 0 where
   pub cube : AllHold t.entries q
 
 pub satisfied : (B : Cnf) (q : Cube) (n : ℕ) (att : List ℕ) (m : Clauses) (t : TrailValue) (text : List ℕ) → IsSearch B n m t text → IsState att m t
-    → NoneFalseOrUnit (live_of m) (holds t.entries) → AllHold t.entries q → IsTotal t → Satisfies B q t
+    → NoneFalseOrUnit (live_of m) (holds t.entries) → AllHold t.entries q → IsTotal m t → Satisfies B q t
 satisfied B q n att m t text h s calm all total = record {
   vars = h.vars;
   clauses = λ j C i.
       let d = h.kept j C i in
-      let r = calm_is_true t d.0 (λ l k. All-contains (IsWithin t.vars) d.0 l (s.inside j d.0 d.1) k) total (calm j d.0 d.1) in
+      let r = calm_is_true att m t s calm total j d.0 d.1 in
       (r.0, (d.2 r.0).1 r.1, r.2, r.3);
   cube = all;
 }

@@ -40,7 +40,7 @@ use Rattle.cube_solve.proofs.UnitClauseLemmas.{noted_same}
 use Rattle.cube_solve.proofs.TruthLemmas.{not_both, true_twin, tautology_true, rup_true}
 
 -- ---- the clauses that were given
-in_base : (B : Cnf) (n : ℕ) (C : Clause) → 1 ≤ n → n < length B.clauses + 1 → live_in (map_of B) n C → Contains B.clauses C
+pub in_base : (B : Cnf) (n : ℕ) (C : Clause) → 1 ≤ n → n < length B.clauses + 1 → live_in (map_of B) n C → Contains B.clauses C
 in_base B n C low up l =
     let F = B.clauses in
     let e : (n - 1) + 1 ≡ n = omega arith in
@@ -131,16 +131,16 @@ has_given F old new id C lits lemmas twins below live add h = record {
 
 -- ---- answers
 module _ (t : TrailValue) (values : List Bool) (reads : (l : Literal) → IsWithin t.vars l → holds t.entries l ≡ true → literal_true (assignment_of values) l ≡ true) where
-  pub live_true : (att : List ℕ) (m : Clauses) → IsState att m t → NoneFalseOrUnit (live_of m) (holds t.entries) → IsTotal t → (n : ℕ) (D : Clause) → live_of m n D → IsTrueIn (assignment_of values) D
+  pub live_true : (att : List ℕ) (m : Clauses) → IsState att m t → NoneFalseOrUnit (live_of m) (holds t.entries) → IsTotal m t → (n : ℕ) (D : Clause) → live_of m n D → IsTrueIn (assignment_of values) D
   live_true att m s calm total n D x =
-      let r = calm_is_true t D (λ l k. All-contains (IsWithin t.vars) D l (s.inside n D x) k) total (calm n D x) in
+      let r = calm_is_true att m t s calm total n D x in
       (r.0, r.1, reads r.0 r.3 r.2)
 
   pub query_true : (A q : Cube) → AllHold t.entries q → AreTwins A q → All (IsWithin t.vars) A → AllTrue (assignment_of values) A
   query_true A q all twins within l i = reads l (All-contains (IsWithin t.vars) A l within i) (all l ((twins l).0 i))
 
 pub solution : (F : List Clause) (A q : Cube) (att : List ℕ) (m : Clauses) (t : TrailValue) (lemmas : List ℕ) (values : List Bool) → HasClauses F (live_of m) lemmas → IsState att m t
-    → NoneFalseOrUnit (live_of m) (holds t.entries) → AllHold t.entries q → IsTotal t → AreTwins A q → All (IsWithin t.vars) A → length values ≡ t.vars
+    → NoneFalseOrUnit (live_of m) (holds t.entries) → AllHold t.entries q → IsTotal m t → AreTwins A q → All (IsWithin t.vars) A → length values ≡ t.vars
     → ((l : Literal) → IsWithin t.vars l → holds t.entries l ≡ true → literal_true (assignment_of values) l ≡ true) → IsSolution t.vars F A values
 solution F A q att m t lemmas values h s calm all total twins within len reads = record {
   whole = len;

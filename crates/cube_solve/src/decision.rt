@@ -1,9 +1,9 @@
 //! The choice of the next assumption or decision.
 
-ghost use Rattle.std.specs.Prelude.{List, All};
+ghost use Rattle.std.specs.Prelude.{◌≡◌, ◌<◌, ◌^◌, List, All};
 ghost use Rattle.dimacs.specs.logic.Literal.{Literal, IsWithin};
 ghost use Rattle.cube_solve.specs.Conflicts.{AllHold};
-ghost use Rattle.cube_solve.specs.inner.DecisionOrder.{IsOrder, IsTaken};
+ghost use Rattle.cube_solve.specs.inner.DecisionOrder.{IsTaken};
 ghost use Rattle.cube_solve.specs.inner.State.{IsAssuming};
 ghost use Rattle.cube_solve.specs.inner.Steps.{AreHeld, IsNext};
 
@@ -19,15 +19,16 @@ pub(crate) enum Next {
     Fails(Lit),
     /// The cube is true: decide this unassigned literal.
     Decide(Lit),
-    /// The cube is true, and each variable is assigned.
+    /// The cube is true, and no unassigned variable waits.
     Done,
 }
 
-/// Pops the next unassigned variable of the decision order; `Done` if each variable is assigned. It is called if the cube is true.
+/// Takes the next unassigned variable of the decision order; `Done` if none waits. It is called if the cube is true.
 fn decide(trail: &Trail, order: &mut Order) -> Next
-    requires { IsOrder trail.now order.old }
+    requires vars { order.old.vars ≡ trail.now.vars }
+    requires limit { trail.now.vars < 2 ^ 31 }
     ensures next { (cube : List Literal) → AllHold trail.now.entries cube → IsNext trail.now cube result }
-    ensures taken { IsTaken trail.now result order.new }
+    ensures taken { IsTaken trail.now result order.old order.new }
 {
     match order.next_decision(trail) {
         Some(literal) => Next::Decide(literal),
@@ -46,10 +47,11 @@ pub(crate) fn pick(
 ) -> Next
     requires cube { All (IsWithin trail.now.vars) cube.now }
     requires held { AreHeld held.old cube.now trail.now.entries }
-    requires order { IsOrder trail.now order.old }
+    requires order { order.old.vars ≡ trail.now.vars }
+    requires limit { trail.now.vars < 2 ^ 31 }
     requires assumed { IsAssuming cube.now trail.now.entries assumed }
     ensures next { IsNext trail.now cube.now result }
-    ensures taken { IsTaken trail.now result order.new }
+    ensures taken { IsTaken trail.now result order.old order.new }
     ensures held { AreHeld held.new cube.now trail.now.entries }
 {
     if trail.level() > assumed {

@@ -1,16 +1,19 @@
 //! The decision order: VMTF queue, heap of scores, and saved values.
+//!
+//! The heap has the variables that may be decided: all, or those that clauses name.
 
 ghost use Rattle.std.specs.Prelude.{◌≡◌, ◌-◌, ◌<◌, ◌≤◌, ◌^◌, false, All, IfOk, IfSome, IfNone};
-ghost use Rattle.dimacs.specs.logic.Literal.{Neg};
-ghost use Rattle.cube_solve.specs.inner.DecisionOrder.{IsOrder, IsOrderBut, AreAllIn, ArePutBack, HasSameMembers};
-ghost use Rattle.cube_solve.specs.inner.State.{IsTotal};
+ghost use Rattle.std.specs.Bool.{OnFalse, OnTrue};
+ghost use Rattle.decide_heap.specs.Decisions.{is_in};
+ghost use Rattle.dimacs.specs.logic.Literal.{Literal, Neg, IsWithin, var_of};
+ghost use Rattle.cube_solve.specs.inner.DecisionOrder.{AreAllIn, AreInserted, ArePutBack, HasNoFree, HasSameMembers, HasVariables, KeepsFree, KeepsFreeBut};
 ghost use Rattle.cube_solve.specs.inner.Steps.{IsUnassigned};
 
 use crate::random::Random;
 use crate::saved_phases::{Rephase, SavedPhases};
 use crate::vmtf_queue::VmtfQueue;
 use decide_heap::DecideHeap;
-use dimacs::{Lit, Var};
+use dimacs::{Base, Lit, Var};
 use std::alloc::{AllocError, Global};
 use std::marker::Model;
 use watches::{Trail, Truth};
@@ -31,9 +34,9 @@ const GREATEST_BUMP: u64 = 1 << 50;
 const SCALE: u64 = 1 << 40;
 
 /// The order of decisions: by scores in stable phases and in focused phases of a flat formula (`Modes::is_flat`), else by the last bump
-/// (VMTF). Each unassigned variable is in the heap, so that the heap decides if the queue finds no variable.
+/// (VMTF). Each unassigned variable of a clause is in the heap, so that the heap decides if the queue finds no variable.
 pub(crate) struct Order {
-    /// The unassigned variables, and perhaps others, by score.
+    /// The unassigned variables of the clauses, and perhaps others, by score.
     heap: DecideHeap,
     /// The amount that a bump adds to a score.
     bump: u64,
@@ -45,6 +48,15 @@ pub(crate) struct Order {
     is_stable: bool,
     /// Whether the formula is flat, so that scores decide in both modes.
     is_flat: bool,
+}
+
+/// Which variables may be decided at first.
+#[derive(Clone, Copy)]
+pub(crate) enum Waiting {
+    /// All.
+    All,
+    /// Those that a clause names.
+    Named,
 }
 
 impl Drop for Order {
@@ -79,13 +91,46 @@ fn fill(heap: &mut DecideHeap, vars: u32)
     }
 }
 
+/// Inserts the variables of a clause into the heap.
+fn insert_all(heap: &mut DecideHeap, clause: &[Lit])
+    requires { All (IsWithin heap.old.vars) clause.now }
+    ensures { AreInserted clause.now heap.old heap.new }
+{
+    for literal in clause {
+        heap.insert(literal.var());
+    }
+}
+
+/// Inserts the variables of a base's clauses into the heap.
+fn insert_named(heap: &mut DecideHeap, base: &Base)
+    requires { heap.old.vars ≡ base.now.vars }
+    ensures vars { heap.new.vars ≡ base.now.vars }
+    ensures named { HasVariables base.now.clauses heap.new }
+{
+    for i in 0..base.len() {
+        insert_all(heap, base.clause(i));
+    }
+}
+
+/// Inserts the variables that may be decided at first: all of the base, or those of its clauses.
+fn insert_first(heap: &mut DecideHeap, base: &Base, waiting: Waiting)
+    requires { heap.old.vars ≡ base.now.vars }
+    ensures vars { heap.new.vars ≡ base.now.vars }
+    ensures named { HasVariables base.now.clauses heap.new }
+{
+    match waiting {
+        Waiting::All => fill(heap, base.vars()),
+        Waiting::Named => insert_named(heap, base),
+    }
+}
+
 /// Pops variables from the heap, the best first, until one is unassigned; None if the heap has no unassigned variable.
 fn pop_unassigned(heap: &mut DecideHeap, trail: &Trail) -> Option<Var>
-    requires { IsOrder trail.now heap.old }
+    requires { heap.old.vars ≡ trail.now.vars }
     ensures free { IfSome result (λ v. IsUnassigned trail.now (Neg v)) }
-    ensures but { IfSome result (λ v. IsOrderBut trail.now (Neg v) heap.new) }
-    ensures total { IfNone result (IsTotal trail.now) }
-    ensures order { IfNone result (IsOrder trail.now heap.new) }
+    ensures but { IfSome result (λ v. KeepsFreeBut trail.now (Neg v) heap.old heap.new) }
+    ensures kept { IfNone result (KeepsFree trail.now heap.old heap.new) }
+    ensures none { IfNone result (HasNoFree trail.now heap.old) }
 {
     'taking: loop {
         match heap.pop_best() {
@@ -97,6 +142,36 @@ fn pop_unassigned(heap: &mut DecideHeap, trail: &Trail) -> Option<Var>
             None => return None,
         }
     }
+}
+
+/// Whether a variable is unassigned and in the heap.
+fn is_free_in(heap: &DecideHeap, trail: &Trail, var: Var) -> bool
+    requires vars { heap.now.vars ≡ trail.now.vars }
+    requires within { IsWithin trail.now.vars (Neg var) }
+    ensures yes { OnTrue result (IsUnassigned trail.now (Neg var)) }
+    ensures no { OnFalse result ((l : Literal) → IsUnassigned trail.now l → var_of l ≡ var → is_in heap.now var ≡ false) }
+{
+    match trail.value(Lit::negative(var)) {
+        Truth::Free => heap.is_in(var),
+        Truth::True => false,
+        Truth::False => false,
+    }
+}
+
+/// Finds an unassigned variable of the heap, and leaves it there; None if there is none.
+fn find_free(heap: &DecideHeap, trail: &Trail) -> Option<Var>
+    requires vars { heap.now.vars ≡ trail.now.vars }
+    requires limit { trail.now.vars < 2 ^ 31 }
+    ensures free { IfSome result (λ v. IsUnassigned trail.now (Neg v)) }
+    ensures none { IfNone result (HasNoFree trail.now heap.now) }
+{
+    for number in 1..trail.vars() + 1 {
+        let var = Var::new(number);
+        if is_free_in(heap, trail, var) {
+            return Some(var);
+        }
+    }
+    None
 }
 
 /// Inserts the variables of the trail's entries above a level into the heap again, moves the cursor of the queue, and saves their values.
@@ -148,14 +223,15 @@ fn draw_scores(heap: &mut DecideHeap, vars: u32, random: &mut Random)
 }
 
 impl Order {
-    /// An order with each variable from 1 to `vars` in the heap; each saved value is false, and the first mode is focused.
-    pub(crate) fn new(alloc: Global, vars: u32) -> Result<Order, AllocError>
-        requires { vars < 2 ^ 31 }
-        ensures { IfOk result (AreAllIn vars) }
+    /// An order of a base's variables, of which those that wait may be decided. Each saved value is false, and the first mode is focused.
+    pub(crate) fn new(alloc: Global, base: &Base, waiting: Waiting) -> Result<Order, AllocError>
+        ensures vars { IfOk result (λ d. d.vars ≡ base.now.vars) }
+        ensures named { IfOk result (HasVariables base.now.clauses) }
     {
+        let vars = base.vars();
         let mut heap = DecideHeap::new(alloc);
         heap.reserve(vars)?;
-        fill(&mut heap, vars);
+        insert_first(&mut heap, base, waiting);
         Ok(Order {
             heap,
             bump: FIRST_BUMP,
@@ -173,36 +249,55 @@ impl Order {
 
     /// Finds the last bumped unassigned variable of the queue; None if the heap decides, or if the queue finds none.
     fn find_queued(&mut self, trail: &Trail) -> Option<Var>
+        requires { self.old.vars ≡ trail.now.vars }
         ensures free { IfSome result (λ v. IsUnassigned trail.now (Neg v)) }
         ensures same { self.new ≡ self.old }
     {
         if self.goes_by_scores() {
             return None;
         }
-        self.queue.find(trail)
+        self.queue.find(trail, &self.heap)
     }
 
-    /// Takes the next unassigned variable: the queue's, or else the heap's best, which is popped; None if each variable is assigned.
-    fn next_variable(&mut self, trail: &Trail) -> Option<Var>
-        requires { IsOrder trail.now self.old }
+    /// Takes an unassigned variable of the heap: the best, which is popped, if scores decide, else any. None if there is none.
+    fn next_in_heap(&mut self, trail: &Trail) -> Option<Var>
+        requires vars { self.old.vars ≡ trail.now.vars }
+        requires limit { trail.now.vars < 2 ^ 31 }
         ensures free { IfSome result (λ v. IsUnassigned trail.now (Neg v)) }
-        ensures but { IfSome result (λ v. IsOrderBut trail.now (Neg v) self.new) }
-        ensures total { IfNone result (IsTotal trail.now) }
-        ensures order { IfNone result (IsOrder trail.now self.new) }
+        ensures but { IfSome result (λ v. KeepsFreeBut trail.now (Neg v) self.old self.new) }
+        ensures kept { IfNone result (KeepsFree trail.now self.old self.new) }
+        ensures none { IfNone result (HasNoFree trail.now self.old) }
+    {
+        if self.goes_by_scores() {
+            return pop_unassigned(&mut self.heap, trail);
+        }
+        find_free(&self.heap, trail)
+    }
+
+    /// Takes the next unassigned variable: the heap's best, which is popped, if scores decide; else the queue's, or any of the heap. None if
+    /// the heap has none: as long as the queue decides, that is not found by popping all of it.
+    fn next_variable(&mut self, trail: &Trail) -> Option<Var>
+        requires vars { self.old.vars ≡ trail.now.vars }
+        requires limit { trail.now.vars < 2 ^ 31 }
+        ensures free { IfSome result (λ v. IsUnassigned trail.now (Neg v)) }
+        ensures but { IfSome result (λ v. KeepsFreeBut trail.now (Neg v) self.old self.new) }
+        ensures kept { IfNone result (KeepsFree trail.now self.old self.new) }
+        ensures none { IfNone result (HasNoFree trail.now self.old) }
     {
         match self.find_queued(trail) {
             Some(var) => Some(var),
-            None => pop_unassigned(&mut self.heap, trail),
+            None => self.next_in_heap(trail),
         }
     }
 
-    /// Takes the next decision: an unassigned variable, with the value to try first; None if each variable is assigned.
+    /// Takes the next decision: an unassigned variable, with the value to try first; None if none waits.
     pub(crate) fn next_decision(&mut self, trail: &Trail) -> Option<Lit>
-        requires { IsOrder trail.now self.old }
+        requires vars { self.old.vars ≡ trail.now.vars }
+        requires limit { trail.now.vars < 2 ^ 31 }
         ensures free { IfSome result (IsUnassigned trail.now) }
-        ensures but { IfSome result (λ l. IsOrderBut trail.now l self.new) }
-        ensures total { IfNone result (IsTotal trail.now) }
-        ensures order { IfNone result (IsOrder trail.now self.new) }
+        ensures but { IfSome result (λ l. KeepsFreeBut trail.now l self.old self.new) }
+        ensures kept { IfNone result (KeepsFree trail.now self.old self.new) }
+        ensures none { IfNone result (HasNoFree trail.now self.old) }
     {
         match self.next_variable(trail) {
             Some(var) => {
@@ -228,6 +323,15 @@ impl Order {
             trail,
             level,
         );
+    }
+
+    /// Lets the variables of a clause be decided from now on.
+    pub(crate) fn insert(&mut self, clause: &[Lit])
+        requires { All (IsWithin self.old.vars) clause.now }
+        ensures { AreInserted clause.now self.old self.new }
+    {
+        insert_all(&mut self.heap, clause);
+        self.queue.free_all(clause);
     }
 
     /// Bumps the variables `met` of an analysis: their scores if the heap decides, else their times in the queue. A score is bumped once

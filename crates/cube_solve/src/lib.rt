@@ -15,6 +15,7 @@ mod decision;
 mod decision_order;
 mod descent;
 mod garbage;
+mod joining;
 mod lbd;
 mod lemma_stats;
 mod log;

@@ -20,7 +20,7 @@ pub(crate) struct Marks {
 
 /// Whether a literal is marked: it has the present stamp. A literal outside the table has the stamp
 /// 0.
-fn is_marked(marks: &Marks, literal: Lit) -> bool
+pub(crate) fn is_marked(marks: &Marks, literal: Lit) -> bool
     ensures { result ≡ nat_eq (slice_index_or marks.now.stamps.items (index_of literal) 0) marks.now.stamp }
 {
     match marks.stamps.get(literal.index()) {

@@ -12,6 +12,7 @@ ghost use Rattle.cube_solve.specs.inner.Twins.{AreLinked};
 ghost use Rattle.cube_solve.specs.inner.SearchInvariants.{IsSteady};
 ghost use Rattle.cube_solve.specs.inner.UnitClauses.{AreNoted};
 
+use crate::decision_order::Waiting;
 use crate::marks::Marks;
 use crate::search::Search;
 use crate::session::Session;
@@ -91,7 +92,7 @@ fn search_of<'b, P: Propagator>(
     let alloc = old.alloc;
     old.state.propagator.release(); // frees it before the clauses are copied: its owner keeps it until later
     let formula = Builder::new(alloc)?.finish(vars)?;
-    let mut search = Search::new(alloc, propagator, formula.as_base())?;
+    let mut search = Search::new(alloc, propagator, formula.as_base(), Waiting::Named)?;
     copy_clauses(&mut search, &old.state.arena, top)?;
     search.take_over_lemmas(old);
     Ok(search)

@@ -1,27 +1,28 @@
 //! Queries of a session: whether some assignment satisfies the clauses so far and makes given literals true.
 
-ghost use Rattle.std.specs.Prelude.{◌≡◌, ◌+◌, ◌<◌, ◌≤◌, List, [], ◌∷◌, map, All, Contains, true, IfOk, OnOk};
+ghost use Rattle.std.specs.Prelude.{◌≡◌, ◌+◌, ◌<◌, ◌≤◌, List, [], ◌∷◌, map, All, Contains, true, IfOk, OnOk, None};
 ghost use Rattle.clause_arena.specs.Clauses.{live_of};
-ghost use Rattle.dimacs.specs.logic.Literal.{Clause, IsWithin, negation};
+ghost use Rattle.dimacs.specs.logic.Literal.{Clause, Literal, IsWithin, negation};
 ghost use Rattle.lrat_text.specs.Log.{Cube};
 ghost use Rattle.watches.specs.Law.{IsConflict};
 ghost use Rattle.watches.specs.Trails.{holds, present};
+ghost use Rattle.watches.specs.declared.trail.Assigned.{Assigned};
 ghost use Rattle.cube_solve.specs.Session.{IsReady, AreGiven, vars_of, last_of, IsRightAnswer, IfUnknown};
 ghost use Rattle.cube_solve.specs.SessionLog.{FitsQuery, HasFailed, IsOver, LogGrows, SatisfiesLive};
-ghost use Rattle.cube_solve.specs.inner.Queries.{ArePicked, RefutesQuery, IfLimit, IsQueryResult};
+ghost use Rattle.cube_solve.specs.inner.Queries.{ArePicked, RefutesQuery, IfLimit, IsMarked, IsQueryResult};
 ghost use Rattle.cube_solve.specs.inner.State.{IsAssuming};
 ghost use Rattle.cube_solve.specs.inner.Marks.{AreMarks};
 ghost use Rattle.cube_solve.specs.inner.Steps.{IsFound};
 
 use crate::answer::{Answer, Failure};
 use crate::descent::Found;
-use crate::marks::marked_of;
+use crate::marks::{Marks, is_marked, marked_of};
 use crate::model::read_model;
 use crate::session::Session;
 use conflict_analysis::{Closing, Lemma, close_cube};
 use dimacs::Lit;
 use std::alloc::{AllocError, Global};
-use watches::Propagator;
+use watches::{Assigned, Propagator, Trail};
 
 /// The result of the search under a query, before its answer is made.
 #[derive(Drop)]
@@ -55,6 +56,41 @@ fn negated(alloc: Global, literals: &[Lit]) -> Result<Vec<Lit>, AllocError>
         others.push(literal.negate())?;
     }
     Ok(others)
+}
+
+/// The level `shared`, or the level below an entry if that is a decision whose literal is not marked and is lower.
+fn shared_below(marks: &Marks, entry: Assigned, shared: u32) -> u32
+    ensures less { result ≤ shared }
+    ensures marked { entry.reason ≡ None → 0 < entry.level → entry.level ≤ result → IsMarked marks.now entry.literal }
+{
+    match entry.reason {
+        Some(_) => shared,
+        None => {
+            if is_marked(marks, entry.literal) {
+                shared
+            } else {
+                shared.min(entry.level.saturating_sub(1))
+            }
+        }
+    }
+}
+
+/// The greatest level up to which each decision of the trail is marked.
+fn shared_level(trail: &Trail, marks: &Marks) -> u32
+    ensures { (e : Assigned) → Contains trail.now.entries e → e.reason ≡ None → 0 < e.level → e.level ≤ result → IsMarked marks.now e.literal }
+{
+    let entries = trail.entries();
+    let mut shared = trail.level();
+    let mut i = entries.len();
+    'going_down: while i > 0 {
+        let entry = entries[i - 1];
+        if entry.level == 0 {
+            return shared;
+        }
+        shared = shared_below(marks, entry, shared);
+        i -= 1;
+    }
+    shared
 }
 
 impl<P: Propagator> Session<'_, P> {
@@ -124,17 +160,21 @@ impl<P: Propagator> Session<'_, P> {
         Ok(())
     }
 
-    /// Backtracks to level 0, and drops the assumptions of the last query.
-    fn begin(&mut self)
-        requires { IsReady P.is_ready P.attached self.old }
+    /// Begins a query, whose literals are those that are marked. Of the trail it keeps what the query shares with the one before: the levels
+    /// below the first whose decision is not marked; and all levels if the query is true at these.
+    fn begin(&mut self, query: &[Lit])
+        requires ready { IsReady P.is_ready P.attached self.old }
+        requires within { All (IsWithin (vars_of self.old)) query.now }
+        requires marks { (l : Literal) → IsMarked self.old.marks l → Contains query.now l }
         ensures ready { IsReady P.is_ready P.attached self.new }
         ensures given { (F : List Clause) → AreGiven F self.old → AreGiven F self.new }
         ensures tells { LogGrows self.old self.new }
         ensures vars { vars_of self.new ≡ vars_of self.old }
         ensures last { last_of self.new ≡ last_of self.old }
-        ensures assuming { (q : Cube) → IsAssuming q self.new.search.state.trail.entries self.new.search.state.assumed }
+        ensures assuming { IsAssuming query.now self.new.search.state.trail.entries self.new.search.state.assumed }
     {
-        self.search.state.begin();
+        let shared = shared_level(&self.search.state.trail, &self.marks);
+        self.search.state.begin(query, shared);
     }
 
     /// Propagates and decides until a clause or an assumption is false, or each variable has a value.
@@ -248,7 +288,7 @@ impl<P: Propagator> Session<'_, P> {
         ensures live { IfOk result (λ answer. SatisfiesLive answer self.new) }
     {
         let kept = self.without_repeats(query)?;
-        self.begin();
+        self.begin(&kept);
         let sought = self.search_query(&kept, limit)?;
         match sought {
             QueryResult::Model => {

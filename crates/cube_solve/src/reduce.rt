@@ -252,6 +252,7 @@ impl<P: Propagator> Search<'_, P> {
             state.propagator,
             &mut state.arena,
             &state.trail,
-        )
+        )?;
+        Ok(())
     }
 }

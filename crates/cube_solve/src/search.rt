@@ -20,6 +20,7 @@ ghost use Rattle.cube_solve.specs.inner.SearchInvariants.{IsSteady, IsSearching}
 ghost use Rattle.cube_solve.specs.inner.UnitClauses.{AreNoted, IsRootUnitLemma};
 
 use crate::counts::refuted_by;
+use crate::decision_order::Waiting;
 use crate::descent::Found;
 use crate::garbage::Garbage;
 use crate::lbd::LbdCounter;
@@ -86,11 +87,12 @@ impl<P> Drop for Search<'_, P> {
 }
 
 impl<'a, P: Propagator> Search<'a, P> {
-    /// A search over a base, before its first step.
+    /// A search over a base, before its first step. `waiting` says which variables may be decided.
     pub(crate) fn new(
         alloc: Global,
         propagator: &'a mut P,
         base: &Base,
+        waiting: Waiting,
     ) -> Result<Search<'a, P>, AllocError>
         requires { P.attached propagator.old ≡ [] }
         ensures searching { IfOk result (IsSearching P.is_ready P.attached base.now 0) }
@@ -100,7 +102,7 @@ impl<'a, P: Propagator> Search<'a, P> {
         ensures assuming { IfOk result (λ s. (q : Cube) → IsAssuming q s.state.trail.entries s.state.assumed) }
     {
         let vars = base.vars(); // tells the proof a bound of the number of clauses too
-        let state = State::new(alloc, propagator, base)?;
+        let state = State::new(alloc, propagator, base, waiting)?;
         Ok(Search {
             alloc,
             state,
@@ -301,8 +303,8 @@ impl<'a, P: Propagator> Search<'a, P> {
         Ok(())
     }
 
-    /// Backtracks to level 0, and adds a clause under the number `id`, but not to `lemmas`: one
-    /// that a session is given, or any that it takes along to more variables.
+    /// Adds a clause under the number `id`, but not to `lemmas`: one that a session is given, or any
+    /// that it takes along to more variables.
     pub(crate) fn add_given(&mut self, id: u64, lits: &[Lit]) -> Result<(), AllocError>
         requires steady { IsSteady P.is_ready P.attached self.old.state }
         requires distinct { IsDistinct same lits.now }
@@ -324,7 +326,7 @@ impl<'a, P: Propagator> Search<'a, P> {
         Ok(())
     }
 
-    /// Backtracks to level 0, and adds a clause under the number `id`, also to `lemmas`: one that another search has learnt.
+    /// Adds a clause under the number `id`, also to `lemmas`: one that another search has learnt.
     pub(crate) fn add_lent(&mut self, id: u64, lits: &[Lit]) -> Result<(), AllocError>
         requires steady { IsSteady P.is_ready P.attached self.old.state }
         requires distinct { IsDistinct same lits.now }

@@ -8,6 +8,7 @@ ghost use Rattle.lrat_text.specs.Grammar.{IsClauseNumber};
 ghost use Rattle.cube_solve.specs.Session.{IsReady, AreGiven, FollowsFrom, IsLemma, vars_of, last_of, log_of};
 ghost use Rattle.cube_solve.specs.SessionLog.{IsKnown};
 
+use crate::decision_order::Waiting;
 use crate::marks::Marks;
 use crate::search::Search;
 use dimacs::{Base, Lit};
@@ -54,7 +55,7 @@ impl<'a, P: Propagator> Session<'a, P> {
         ensures known { IfOk result (λ s. (given : List ℕ) → ((n : ℕ) → Contains given n → n ≤ length base.now.clauses) → IsKnown given (map_of base.now) s) }
     {
         let vars = base.vars(); // tells the proof a bound of the number of clauses too
-        let search = Search::new(alloc, propagator, base)?;
+        let search = Search::new(alloc, propagator, base, Waiting::Named)?;
         Ok(Session {
             search,
             top: base.len() as u64,

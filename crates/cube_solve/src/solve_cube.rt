@@ -6,6 +6,7 @@ ghost use Rattle.dimacs.specs.logic.Literal.{IsWithin, var_of};
 ghost use Rattle.cube_solve.specs.Counts.{AreCounts, HasLog};
 ghost use Rattle.cube_solve.specs.Outcome.{IsRightOutcome};
 
+use crate::decision_order::Waiting;
 use crate::observer::{Observer, Unobserved};
 use crate::outcome::{Outcome, Searched};
 use crate::search::Search;
@@ -27,7 +28,7 @@ pub fn solve_by<P: Propagator>(
     requires within { All (IsWithin base.now.vars) cube.now }
     ensures { IfOk result (IsRightOutcome base.now cube.now limit) }
 {
-    let search = Search::new(alloc, propagator, base)?;
+    let search = Search::new(alloc, propagator, base, Waiting::All)?;
     let searched = search.run(base, cube, limit, &mut Unobserved)?;
     Ok(searched.into_outcome())
 }
@@ -64,7 +65,7 @@ pub fn solve_observed<O: Observer>(
     ensures log { IfOk result (λ s. HasLog base.now s.counts s.outcome s.log) }
 {
     let mut watched = Watched::new(alloc);
-    let search = Search::new(alloc, &mut watched, base)?;
+    let search = Search::new(alloc, &mut watched, base, Waiting::All)?;
     let searched = search.run(base, cube, limit, observer)?;
     observer.see(&searched.counts);
     Ok(searched)

@@ -4,24 +4,28 @@ ghost use Rattle.std.specs.Prelude.{◌≡◌, ◌<◌, ◌≤◌, true, List, [
 ghost use Rattle.clause_arena.specs.Clauses.{live_of};
 ghost use Rattle.dimacs.specs.logic.ClauseMap.{map_of, live_in};
 ghost use Rattle.std.specs.List.{IsDistinct};
-ghost use Rattle.dimacs.specs.logic.Literal.{IsWithin, same};
+ghost use Rattle.decide_heap.specs.Decisions.{is_in};
+ghost use Rattle.dimacs.specs.logic.Literal.{Literal, IsWithin, negation, same, var_of};
 ghost use Rattle.lrat_text.specs.Log.{Cube};
-ghost use Rattle.watches.specs.Trails.{up_to};
+ghost use Rattle.watches.specs.Trails.{holds, up_to};
 ghost use Rattle.watches.specs.declared.trail.Assigned.{Assigned};
 ghost use Rattle.cube_solve.specs.inner.LearntLog.{AreBelow};
 ghost use Rattle.cube_solve.specs.inner.Twins.{AreLinked, IsAdded};
-ghost use Rattle.cube_solve.specs.inner.State.{IsAssuming};
+ghost use Rattle.cube_solve.specs.inner.State.{AreAssumed, IsAssuming};
 ghost use Rattle.cube_solve.specs.inner.SearchInvariants.{IsSteady};
+ghost use Rattle.cube_solve.specs.inner.Steps.{IsUnassigned};
 
 use crate::base_loader::load;
-use crate::decision_order::Order;
+use crate::decision_order::{Order, Waiting};
+use crate::joining::{are_true_at, joining_level};
 use crate::modes::AfterConflict;
 use clause_arena::Arena;
 use dimacs::{Base, Lit};
 use std::alloc::{AllocError, Global};
 use watches::{Propagator, Trail, add_clause};
 
-/// The state of a search. Each clause of the arena is attached to the propagator; each unassigned variable is in the decision order.
+/// The state of a search. Each clause of the arena is attached to the propagator; each unassigned variable of a clause is in the decision
+/// order.
 pub(crate) struct State<'a, P> {
     pub(crate) propagator: &'a mut P,
     /// The clauses, given and learnt.
@@ -51,11 +55,12 @@ impl<P> Drop for State<'_, P> {
 }
 
 impl<'a, P: Propagator> State<'a, P> {
-    /// A state with the clauses of the base, numbered from 1, and an empty trail.
+    /// A state with the clauses of the base, numbered from 1, and an empty trail. `waiting` says which variables may be decided.
     pub(crate) fn new(
         alloc: Global,
         propagator: &'a mut P,
         base: &Base,
+        waiting: Waiting,
     ) -> Result<State<'a, P>, AllocError>
         requires { P.attached propagator.old ≡ [] }
         ensures steady { IfOk result (IsSteady P.is_ready P.attached) }
@@ -66,7 +71,7 @@ impl<'a, P: Propagator> State<'a, P> {
         propagator.reserve(base.vars())?;
         let mut arena = Arena::new(alloc);
         let trail = Trail::new(alloc, base.vars())?;
-        let order = Order::new(alloc, base.vars())?;
+        let order = Order::new(alloc, base, waiting)?;
         load(alloc, base, propagator, &mut arena, &trail)?;
         Ok(State {
             propagator,
@@ -89,24 +94,31 @@ impl<'a, P: Propagator> State<'a, P> {
         ensures front { (gone : List Assigned) × (self.old.trail.entries ≡ self.new.trail.entries ++ gone) × All (λ e. level < e.level) gone }
         ensures kept { All (λ e. e.level ≤ level) self.new.trail.entries }
         ensures assuming { (q : Cube) → IsAssuming q self.old.trail.entries self.old.assumed → IsAssuming q self.new.trail.entries self.new.assumed }
+        ensures waits { (l : Literal) → holds self.old.trail.entries (negation l) ≡ true → IsUnassigned self.new.trail l → is_in self.new.order (var_of l) ≡ true }
     {
         self.order.put_back(&self.trail, level);
         self.propagator.undo(&mut self.trail, level);
     }
 
-    /// Backtracks to level 0, and forgets all assumptions, before the next query of a session.
-    pub(crate) fn begin(&mut self)
-        requires { IsSteady P.is_ready P.attached self.old }
+    /// Begins the next query of a session: the levels up to `shared` are from now on those of assumptions. Backtracks to that level, unless the
+    /// whole query is true there: then the search goes on where it is.
+    pub(crate) fn begin(&mut self, query: &[Lit], shared: u32)
+        requires steady { IsSteady P.is_ready P.attached self.old }
+        requires within { All (IsWithin self.old.trail.vars) query.now }
         ensures steady { IsSteady P.is_ready P.attached self.new }
         ensures arena { self.new.arena ≡ self.old.arena }
         ensures vars { self.new.trail.vars ≡ self.old.trail.vars }
-        ensures assuming { (q : Cube) → IsAssuming q self.new.trail.entries self.new.assumed }
+        ensures assuming { AreAssumed query.now self.old.trail.entries shared → IsAssuming query.now self.new.trail.entries self.new.assumed }
     {
-        self.backtrack(0);
-        self.assumed = 0;
+        if are_true_at(&self.trail, query, shared) {
+            self.assumed = shared;
+            return;
+        }
+        self.backtrack(shared);
+        self.assumed = shared;
     }
 
-    /// Backtracks to level 0, and adds a clause under the number `id`.
+    /// Adds a clause under the number `id`. Backtracks as far as it has to: to the highest level below which the clause is neither false nor unit.
     pub(crate) fn add_given(&mut self, id: u64, lits: &[Lit]) -> Result<(), AllocError>
         requires steady { IsSteady P.is_ready P.attached self.old }
         requires distinct { IsDistinct same lits.now }
@@ -116,8 +128,10 @@ impl<'a, P: Propagator> State<'a, P> {
         ensures added { OnOk result (IsAdded (live_of self.old.arena) id lits.now (live_of self.new.arena)) }
         ensures vars { OnOk result (self.new.trail.vars ≡ self.old.trail.vars) }
     {
-        self.backtrack(0);
+        let level = joining_level(&self.trail, lits);
+        self.backtrack(level);
         add_clause(self.propagator, &mut self.arena, &self.trail, id, lits)?;
+        self.order.insert(lits);
         Ok(())
     }
 

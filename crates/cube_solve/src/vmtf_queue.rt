@@ -1,12 +1,14 @@
 //! The VMTF queue: variables by the time of their last bump, the latest first (variable move to front: Ryan 2004; Biere and Fröhlich 2015).
 //!
-//! No proof rests on the queue: a variable that it finds is tested to be unassigned, and if it finds none, the heap is asked.
+//! No proof rests on the queue: a variable that it finds is tested to be unassigned, and if it finds none, the heap is asked. A variable that
+//! is not in the heap waits for a clause that names it, and is passed over.
 
-ghost use Rattle.std.specs.Prelude.{IfSome};
+ghost use Rattle.std.specs.Prelude.{◌≡◌, IfSome};
 ghost use Rattle.dimacs.specs.logic.Literal.{Neg};
 ghost use Rattle.cube_solve.specs.inner.Steps.{IsUnassigned};
 
 use crate::random::Random;
+use decide_heap::DecideHeap;
 use dimacs::{Lit, Var};
 use std::alloc::{AllocError, Global};
 use watches::{Trail, Truth};
@@ -36,7 +38,7 @@ pub(crate) struct VmtfQueue {
     latest: u32,
     /// The time of the last bump.
     clock: u64,
-    /// The variable from which `find` looks for an unassigned one: all later variables are assigned.
+    /// The variable from which `find` looks for an unassigned one of the heap: each later one is assigned.
     cursor: u32,
     /// The buffer of `bump`: the sort key of each variable.
     bumped: Vec<u64>,
@@ -164,13 +166,21 @@ impl VmtfQueue {
         }
     }
 
+    /// Moves the cursor as `free` does for each variable of a clause, which is about to be decided perhaps.
+    pub(crate) fn free_all(&mut self, clause: &[Lit]) {
+        for literal in clause {
+            self.free(literal.var());
+        }
+    }
+
     /// Moves the cursor to the latest variable, at a change of mode.
     pub(crate) fn rewind(&mut self) {
         self.cursor = self.latest;
     }
 
-    /// Finds the latest unassigned variable, and moves the cursor to it; None if there is none.
-    pub(crate) fn find(&mut self, trail: &Trail) -> Option<Var>
+    /// Finds the latest unassigned variable of the heap, and moves the cursor to it; None if there is none.
+    pub(crate) fn find(&mut self, trail: &Trail, heap: &DecideHeap) -> Option<Var>
+        requires { heap.now.vars ≡ trail.now.vars }
         ensures { IfSome result (λ v. IsUnassigned trail.now (Neg v)) }
     {
         for _ in 0..self.links.len() {
@@ -179,7 +189,7 @@ impl VmtfQueue {
                 return None;
             }
             let var = Var::new(number);
-            if trail.value(Lit::negative(var)) == Truth::Free {
+            if trail.value(Lit::negative(var)) == Truth::Free && heap.is_in(var) {
                 return Some(var);
             }
             match self.links.get(number as usize) {

@@ -226,6 +226,64 @@ fn a_session(rt: HostRuntime) {
 }
 
 #[test]
+fn a_worker_of_a_cell(rt: HostRuntime) {
+    let alloc = rt.alloc();
+    let plain = Request::Share {
+        input: "f.cnf",
+        folder: "cell",
+        cubes: None,
+        leaf: None,
+        seed: None,
+        limit: None,
+        turn: 300,
+        printing: PRINTED,
+    };
+    asks(&rt, alloc, "satcluster share f.cnf cell", plain);
+    let full = Request::Share {
+        input: "f.cnf",
+        folder: "cell",
+        cubes: Some("f.icnf"),
+        leaf: Some(u32::MAX),
+        seed: Some(u64::MAX),
+        limit: Some(1_000_000_000),
+        turn: 1_000_000,
+        printing: Printing {
+            quiet: true,
+            witness: false,
+        },
+    };
+    let words =
+        "satcluster share --cubes f.icnf --leaf 4294967295 --seed 18446744073709551615 --limit 1000000000 --turn 1000000 -q -n f.cnf cell";
+    asks(&rt, alloc, words, full);
+    refuses(&rt, alloc, "satcluster share --turn 0 f.cnf cell");
+    refuses(&rt, alloc, "satcluster share --turn 1000001 f.cnf cell");
+    refuses(&rt, alloc, "satcluster share f.cnf");
+}
+
+#[test]
+fn a_woven_cell(rt: HostRuntime) {
+    let alloc = rt.alloc();
+    let plain = Request::Weave {
+        input: "f.cnf",
+        folder: "cell",
+        log: "f.lrat",
+        cubes: None,
+        binary: false,
+    };
+    asks(&rt, alloc, "satcluster weave f.cnf cell f.lrat", plain);
+    let full = Request::Weave {
+        input: "f.cnf",
+        folder: "cell",
+        log: "f.lrat",
+        cubes: Some("f.icnf"),
+        binary: true,
+    };
+    let words = "satcluster weave --binary --cubes f.icnf f.cnf cell f.lrat";
+    asks(&rt, alloc, words, full);
+    refuses(&rt, alloc, "satcluster weave f.cnf cell");
+}
+
+#[test]
 fn a_check_and_cubes_and_a_drill(rt: HostRuntime) {
     let alloc = rt.alloc();
     let check = Request::Check {

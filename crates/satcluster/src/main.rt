@@ -4,6 +4,8 @@
 ghost use Rattle.std.specs.Prelude.{◌≤◌};
 ghost use Rattle.command_line.specs.CommandLine.{IsInRange};
 
+mod cell;
+mod cell_folder;
 mod cubes_complete;
 mod drafts;
 mod elaboration_progress;
@@ -23,12 +25,13 @@ mod solver_disk;
 mod standard_input;
 mod status_line;
 
+use cell::{share, weave};
 use command_line::solver_call;
 use commands::{
     CoverFiles, Deciding, JoinFiles, JoinOptions, LiftFiles, Lifted, ReceiptFiles, Target,
-    TrimFiles, check_files, check_session_files, cover_files, deliver, join_files, leaf_files,
-    lift_drat_files, lift_files, receipt_files, refused, split_by_look_files, split_files,
-    test_files, trim_files,
+    TrimFiles, WeaveFiles, check_files, check_session_files, cover_files, deliver, join_files,
+    leaf_files, lift_drat_files, lift_files, receipt_files, refused, split_by_look_files,
+    split_files, test_files, trim_files,
 };
 use cubes_complete::complete;
 use dimacs::Limits;
@@ -366,6 +369,17 @@ fn answer<R: Runtime + AllocGlobal + Net>(
             limit,
             witness,
         } => session(rt, limits, SessionFiles { input, proof }, limit, witness),
+        Request::Share { .. } => share(rt, limits, request),
+        Request::Weave {
+            input,
+            folder,
+            log,
+            cubes,
+            binary,
+        } => {
+            let log = Target { path: log, binary };
+            weave(rt, limits, folder, &WeaveFiles { input, log }, cubes)
+        }
     }
 }
 
@@ -377,6 +391,7 @@ fn is_quiet(request: &Request) -> bool {
         | Request::Work { options, .. } => options.quiet,
         Request::Decide { printing, .. }
         | Request::Refute { printing, .. }
+        | Request::Share { printing, .. }
         | Request::Join { printing, .. } => printing.quiet,
         Request::Cover { quiet, .. } => *quiet,
         _ => false,

@@ -44,6 +44,8 @@ fn is_read_twice(request: &Request) -> bool {
         Request::SplitByLook { input, cubes, .. } => is_dash(input) && is_dash(cubes),
         Request::Leaf { input, cubes, .. } => is_dash(input) && is_dash(cubes),
         Request::Refute { input, cubes, .. } => is_dash(input) && is_dash(cubes),
+        Request::Share { input, cubes, .. } => is_dash(input) && is_some_dash(cubes),
+        Request::Weave { input, cubes, .. } => is_dash(input) && is_some_dash(cubes),
         Request::Complete { input, list } => is_dash(input) && is_dash(list),
         Request::Model { input, output } => is_dash(input) && is_dash(output),
         Request::Lift {
@@ -88,6 +90,7 @@ fn is_written(request: &Request) -> bool {
         Request::Elaborate { lrat, .. } => is_dash(lrat),
         Request::Trim { out, .. } => is_dash(out),
         Request::Receipt { receipt, .. } => is_dash(receipt),
+        Request::Weave { log, .. } => is_dash(log),
         _ => false,
     }
 }

@@ -1,7 +1,8 @@
 //! Logs of several searches of one formula that take over lemmas of one another, and what follows from them, as laws.
 //!
 //! Every lemma and every import of such logs follows from the formula, and lemmas that close all leaves of a splitting tree refute it. Woven by
-//! the clock, such logs are one log over the formula, which closes each leaf that they close. No command writes or reads such logs yet.
+//! the clock, such logs are one log over the formula, which closes each leaf that they close. The commands `share` and `weave` write and
+//! read them.
 #![tactic(auto)]
 
 mod examples;

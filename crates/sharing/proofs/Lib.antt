@@ -1,1 +1,2 @@
+mod LeafLemmas
 mod WritingLemmas

@@ -1,5 +1,5 @@
 -- What a worker has written, and what stands of it in the folder.
-use Rattle.std.proofs.Common.{◌≡◌, Bool, true, false, MatchBool, Option, Some, None, IfSome, IfNone, inl, inr, ℕ, ◌+◌, ◌≤◌, List, [], ◌∷◌, ◌++◌, refl, sym, subst, arith}
+use Rattle.std.proofs.Common.{◌≡◌, Bool, true, false, MatchBool, inl, inr, ℕ, ◌+◌, ◌≤◌, List, [], ◌∷◌, ◌++◌, refl, sym, ap, ◌∙◌, subst, arith}
 use Rattle.std.specs.List.{All, Contains}
 use Rattle.std.specs.Bool.{OnTrue}
 use Rattle.std.proofs.lemmas.Bool.{cases_lt, MatchBool-at_true, MatchBool-at_false}
@@ -16,7 +16,29 @@ use Rattle.cell_worker.specs.declared.turn.Turn.{Turn}
 use Rattle.cell_worker.specs.declared.turn.Turn.TheVariants as turn
 use Rattle.cell_worker.specs.declared.worker.CellWorker.{CellWorker}
 use Rattle.sharing.specs.Sharing.{EndsImporting, IsBeginning}
-use Rattle.sharing.specs.inner.Writing.{GoesOn, IsWriting, IsWritingSteps}
+use Rattle.sharing.specs.declared.run.Shared.{Shared}
+use Rattle.sharing.specs.inner.Writing.{Extends, GoesOn, HasEnded, IsWriting, IsWritingSteps}
+
+-- lines begin with themselves, and with what the lines with which they begin begin with
+pub extends_self : (steps : List SharedStep) → Extends steps steps
+extends_self steps = ([], sym (append-nil steps))
+
+pub extends_trans : (a b c : List SharedStep) → Extends a b → Extends b c → Extends a c
+extends_trans a b c (m, e) (n, f) = (m ++ n, f ∙ ap (λ x. x ++ n) e ∙ append_assoc a m n)
+
+-- lines with more lines behind them
+pub extends_by : (a b more : List SharedStep) → Extends a b → Extends a (b ++ more)
+extends_by a b more h = extends_trans a b (b ++ more) h (more, refl)
+
+-- a worker that has written on twice has written on
+pub goes_nowhere : {P : Type 0} (w : CellWorker P) → GoesOn w w
+goes_nowhere w F steps text h = (steps, extends_self steps, h)
+
+pub goes : {P : Type 0} (a b c : CellWorker P) → GoesOn a b → GoesOn b c → GoesOn a c
+goes a b c h k F steps text w =
+    let x = h F steps text w in
+    let y = k F x.0 text x.2 in
+    (y.0, extends_trans steps x.0 y.0 x.1 y.1, y.2)
 
 -- if each number up to the last one stands for a name, so it is with one name more
 pub named_more : (names : Names) (top : ℕ) (name : List ℕ) → ((n : ℕ) → 1 ≤ n → n ≤ top → (m : List ℕ) × Contains names (n, m))
@@ -86,18 +108,18 @@ module _ {P : Type 0} where
       → HasWritten F names (steps ++ Import (last_in new) C name there ∷ []) text new
 
   pub imported : (lent : Bool) (old new : CellWorker P) (log there : ℕ) (C : Clause) → MatchBool lent (Imported old new log there C) (new ≡ old) → lent ≡ true
-      → names_in new ≡ names_in old → 1 ≤ log → log ≤ names_in old → (F : Cnf) (text : List ℕ) → IsWriting F text old
-      → (steps : List SharedStep) × (name : List ℕ) × IsWritingSteps F (steps ++ Import (last_in new) C name there ∷ []) text new
-  imported lent old new log there C stands told same low high F text h =
+      → names_in new ≡ names_in old → 1 ≤ log → log ≤ names_in old → (F : Cnf) (steps : List SharedStep) (text : List ℕ) → IsWritingSteps F steps text old
+      → (name : List ℕ) × IsWritingSteps F (steps ++ Import (last_in new) C name there ∷ []) text new
+  imported lent old new log there C stands told same low high F steps text h =
       let one : Imported old new log there C = MatchBool-at_true (Imported old new log there C) (new ≡ old) told stands in
-      let name = h.1.named log low high in
-      (h.0, name.0, writes F h.1.names (h.0 ++ Import (last_in new) C name.0 there ∷ []) text old new same h.1.named (one F h.1.names h.0 text name.0 h.1.written name.1))
+      let name = h.named log low high in
+      (name.0, writes F h.names (steps ++ Import (last_in new) C name.0 there ∷ []) text old new same h.named (one F h.names steps text name.0 h.written name.1))
 
   -- a worker that has not is as it was
   pub not_imported : (lent : Bool) (old new : CellWorker P) (log there : ℕ) (C : Clause) → MatchBool lent (Imported old new log there C) (new ≡ old)
       → lent ≡ false → GoesOn old new
-  not_imported lent old new log there C stands told F text h =
-      subst (IsWriting F text) (sym (MatchBool-at_false (Imported old new log there C) (new ≡ old) told stands)) h
+  not_imported lent old new log there C stands told =
+      subst (GoesOn old) (sym (MatchBool-at_false (Imported old new log there C) (new ≡ old) told stands)) (goes_nowhere old)
 
   -- a worker whose clock was moved
   abbrev Advanced : CellWorker P → CellWorker P → Type 0
@@ -107,31 +129,20 @@ module _ {P : Type 0} where
 
   pub advanced : (moved : Bool) (old new : CellWorker P) → MatchBool moved (Advanced old new) (new ≡ old) → moved ≡ true → names_in new ≡ names_in old
       → GoesOn old new
-  advanced moved old new stands told same F text h =
-      let one : Advanced old new = MatchBool-at_true (Advanced old new) (new ≡ old) told stands in
-      (h.0 ++ Clock (clock_in new) ∷ [], writes F h.1.names (h.0 ++ Clock (clock_in new) ∷ []) text old new same h.1.named (one F h.1.names h.0 text h.1.written))
+  advanced moved old new stands told same F steps text h =
+      let one : Advanced old new = MatchBool-at_true (Advanced old new) (new ≡ old) told stands in (
+        steps ++ Clock (clock_in new) ∷ [],
+        (Clock (clock_in new) ∷ [], refl),
+        writes F h.names (steps ++ Clock (clock_in new) ∷ []) text old new same h.named (one F h.names steps text h.written),
+      )
 
   pub not_advanced : (moved : Bool) (old new : CellWorker P) → MatchBool moved (Advanced old new) (new ≡ old) → moved ≡ false → GoesOn old new
-  not_advanced moved old new stands told F text h =
-      subst (IsWriting F text) (sym (MatchBool-at_false (Advanced old new) (new ≡ old) told stands)) h
+  not_advanced moved old new stands told =
+      subst (GoesOn old) (sym (MatchBool-at_false (Advanced old new) (new ≡ old) told stands)) (goes_nowhere old)
 
 pub on_true : (b : Bool) (P Q : Type 0) → (P → Q) → OnTrue b P → OnTrue b Q
 on_true true P Q f p = f p
 on_true false P Q f p = p
-
-pub if_some : {A : Type 0} (o : Option A) (P Q : A → Type 0) → ((x : A) → P x → Q x) → IfSome o P → IfSome o Q
-if_some (Some x) P Q f p = f x p
-if_some None P Q f p = p
-
-pub if_some_at : {A : Type 0} (o : Option A) (x : A) (P : A → Type 0) → o ≡ Some x → IfSome o P → P x
-if_some_at {A = A} o x P is p = subst (λ (q : Option A). IfSome q P) is p
-
-pub if_none_at : {A : Type 0} (o : Option A) (Q : Type 0) → o ≡ None → IfNone o Q → Q
-if_none_at {A = A} o Q is q = subst (λ (p : Option A). IfNone p Q) is q
-
-pub if_none_of : {A : Type 0} (o : Option A) (Q : Type 0) → Q → IfNone o Q
-if_none_of (Some x) Q q = tt
-if_none_of None Q q = q
 
 -- nothing is the text of a log with imports
 pub empty_text : (F : Cnf) → IsSharedText F [] [] []
@@ -141,11 +152,11 @@ module _ {P : Type 0} where
   -- what a turn has written stands behind what was written before
   pub turned : (query : Cube) (how : Turn) (old new : CellWorker P)
       → ((F : Cnf) (names : Names) (steps : List SharedStep) (text : List ℕ) → HasWritten F names steps text old → HasTurned F names steps text query how new)
-      → names_in new ≡ names_in old → (F : Cnf) (text : List ℕ) → IsWriting F text old
-      → (steps : List SharedStep) × (lines : List SharedStep) × IsRightTurn F query lines how × IsWritingSteps F (steps ++ lines) text new
-  turned query how old new stands same F text h =
-      let t = stands F h.1.names h.0 text h.1.written in
-      (h.0, t.lines, t.right, writes F h.1.names (h.0 ++ t.lines) text old new same h.1.named t.written)
+      → names_in new ≡ names_in old → (F : Cnf) (steps : List SharedStep) (text : List ℕ) → IsWritingSteps F steps text old
+      → (lines : List SharedStep) × IsRightTurn F query lines how × IsWritingSteps F (steps ++ lines) text new
+  turned query how old new stands same F steps text h =
+      let t = stands F h.names steps text h.written in
+      (t.lines, t.right, writes F h.names (steps ++ t.lines) text old new same h.named t.written)
 
 pub on_true_at : (b : Bool) (P : Type 0) → b ≡ true → OnTrue b P → P
 on_true_at b P is p = subst (λ (x : Bool). OnTrue x P) is p
@@ -153,3 +164,8 @@ on_true_at b P is p = subst (λ (x : Bool). OnTrue x P) is p
 pub closed_turn : (F : Cnf) (query : Cube) (lines : List SharedStep) (how : Turn) (number : ℕ) → how ≡ turn.Closed number → IsRightTurn F query lines how
     → EndsClosing query number lines
 closed_turn F query lines how number is right = subst (IsRightTurn F query lines) is right
+
+module _ {P : Type 0} where
+  -- a search that went on behind longer lines went on behind those with which they begin
+  pub further : (F : Cnf) (q : Cube) (a b : List SharedStep) (bytes : List ℕ) (e : Shared) (w : CellWorker P) → Extends a b → HasEnded F q b bytes e w → HasEnded F q a bytes e w
+  further F q a b bytes e w by h = record { longer = h.longer; extends = extends_trans a b h.longer by h.extends; stands = h.stands; fits = h.fits }

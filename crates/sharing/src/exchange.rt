@@ -5,36 +5,44 @@ ghost use Rattle.std.specs.Bool.{OnTrue};
 ghost use Rattle.dimacs.specs.logic.Cnf.{Cnf};
 ghost use Rattle.dimacs.specs.logic.Literal.{Literal, negation};
 ghost use Rattle.cell_worker.specs.WorkerLog.{IsWorkerReady, names_in, vars_in};
-ghost use Rattle.sharing.specs.inner.Writing.{GoesOn, HasImported, IsWriting};
+ghost use Rattle.shared_logs.specs.SharedLogs.{SharedStep};
+ghost use Rattle.sharing.specs.inner.Writing.{GoesOn, HasImported, IsWritingSteps};
 
 use crate::folder::Folder;
 use crate::inbox::{Inbox, Offered};
+use crate::known_leaves::KnownLeaves;
 use crate::peer::Peer;
 use cell_worker::CellWorker;
 use dimacs::Lit;
+use icnf::Tree;
 use reports::Refusal;
 use shared_lines::{is_clause_number, is_name};
 use std::alloc::{AllocError, Global};
 use watches::Propagator;
 
-/// The greatest number of literals that are taken over before a turn.
+/// The greatest number of literals that are taken over before a turn, without those of clauses that close leaves.
 const MOST_LITERALS: usize = 3000;
 
 /// The other workers, and what was read of them.
-pub(crate) struct Exchange {
+pub(crate) struct Exchange<'a> {
     alloc: Global,
+    leaves: KnownLeaves<'a>,
     peers: Vec<Peer>,
     inbox: Inbox,
+    /// The place of the next offer that is looked at.
+    next: usize,
     /// The buffer of what is read at once.
     room: Vec<u8>,
 }
 
-impl Drop for Exchange {
+impl Drop for Exchange<'_> {
     fn drop(self) {
         let Exchange {
             alloc: _,
+            leaves: _,
             peers: _,
             inbox: _,
+            next: _,
             room: _,
         } = self;
     }
@@ -72,17 +80,24 @@ fn closes(query: &[Lit], clause: &[Lit]) -> bool
     true
 }
 
-impl Exchange {
-    /// No other worker is known yet. Offers may have variables up to `most`.
-    pub(crate) fn new(alloc: Global, most: u32) -> Exchange
+impl<'a> Exchange<'a> {
+    /// No other worker is known yet. Offers may have variables up to `most`, and those that close leaves of the tree come first.
+    pub(crate) fn of(alloc: Global, tree: &'a Tree, most: u32) -> Result<Exchange<'a>, AllocError>
         requires { most ≤ 199999999 }
     {
-        Exchange {
+        Ok(Exchange {
             alloc,
+            leaves: KnownLeaves::of(alloc, tree, most)?,
             peers: Vec::new(alloc),
             inbox: Inbox::new(alloc, most),
+            next: 0,
             room: Vec::new(alloc),
-        }
+        })
+    }
+
+    /// Notes that the leaf at a place is closed.
+    pub(crate) fn note_closed(&mut self, place: usize) {
+        self.leaves.note(place);
     }
 
     /// Notes the workers that came to the folder.
@@ -110,16 +125,20 @@ impl Exchange {
         };
         self.room.clear();
         folder.read(row, peer.read, &mut self.room)?;
-        peer.take(&self.room, row, &mut self.inbox)
+        peer.take(&self.room, &self.leaves, row, &mut self.inbox)
             .map_err(no_memory)
     }
 
-    /// Reads what others have offered since the last call.
+    /// Reads what others have offered since the last call, once all offers that were read were looked at.
     pub(crate) fn read<F: Folder>(&mut self, folder: &mut F) -> Result<(), Refusal>
         ensures { (log : List ℕ) → F.has_logged folder.old log → F.has_logged folder.new log }
     {
         self.meet(folder)?;
+        if self.next < self.inbox.len() {
+            return Ok(());
+        }
         self.inbox.clear();
+        self.next = 0;
         for row in 0..self.peers.len() {
             self.read_peer(folder, row)?;
         }
@@ -161,7 +180,7 @@ impl Exchange {
         requires { IsWorkerReady P.is_ready P.attached worker.old }
         ensures ready { OnOk result (IsWorkerReady P.is_ready P.attached worker.new) }
         ensures stands { OnOk result (GoesOn worker.old worker.new) }
-        ensures closed { IfOk result (λ closed. OnTrue closed ((F : Cnf) (text : List ℕ) → IsWriting F text worker.old → HasImported F query.now text worker.new)) }
+        ensures closed { IfOk result (λ closed. OnTrue closed ((F : Cnf) (steps : List SharedStep) (text : List ℕ) → IsWritingSteps F steps text worker.old → HasImported F query.now steps text worker.new)) }
         ensures vars { OnOk result (vars_in worker.new ≡ vars_in worker.old) }
     {
         if !is_clause_number(offer.number) {
@@ -178,8 +197,22 @@ impl Exchange {
         Ok(closes(query, literals))
     }
 
-    /// Takes over the shortest offers that were read, as long as they have at most `MOST_LITERALS` literals together. Answers whether one of
-    /// them closes the query.
+    /// Whether an offer is worth to be taken over. One that could close a leaf is, if it closes one that is not known to be closed; of the
+    /// others, as long as they have at most `left` literals together.
+    fn is_wanted(&mut self, offer: Offered, left: &mut usize) -> bool {
+        if offer.may_close {
+            return self.leaves.note_all(self.inbox.literals_of(offer));
+        }
+        if offer.len > *left {
+            *left = 0; // those after it are no shorter
+            return false;
+        }
+        *left -= offer.len;
+        true
+    }
+
+    /// Takes over the offers that close leaves, and then the shortest others, as long as these have at most `MOST_LITERALS` literals
+    /// together. Answers whether one of them closes the query.
     pub(crate) fn take_over<P: Propagator>(
         &mut self,
         worker: &mut CellWorker<'_, P>,
@@ -188,22 +221,20 @@ impl Exchange {
         requires { IsWorkerReady P.is_ready P.attached worker.old }
         ensures ready { OnOk result (IsWorkerReady P.is_ready P.attached worker.new) }
         ensures stands { OnOk result (GoesOn worker.old worker.new) }
-        ensures closed { IfOk result (λ closed. OnTrue closed ((F : Cnf) (text : List ℕ) → IsWriting F text worker.old → HasImported F query.now text worker.new)) }
+        ensures closed { IfOk result (λ closed. OnTrue closed ((F : Cnf) (steps : List SharedStep) (text : List ℕ) → IsWritingSteps F steps text worker.old → HasImported F query.now steps text worker.new)) }
         ensures vars { OnOk result (vars_in worker.new ≡ vars_in worker.old) }
     {
         if !worker.advance(self.inbox.latest)? {
             return Ok(false); // the clock has come to its end: nothing is taken over any more
         }
+        self.inbox.pass();
         let mut left = MOST_LITERALS;
-        for place in 0..self.inbox.len() {
+        for place in self.next..self.inbox.len() {
+            self.next = place + 1;
             let Some(offer) = self.inbox.get(place) else {
                 return Ok(false);
             };
-            if offer.len > left {
-                return Ok(false);
-            }
-            left -= offer.len;
-            if self.take(worker, query, offer)? {
+            if self.is_wanted(offer, &mut left) && self.take(worker, query, offer)? {
                 return Ok(true);
             }
         }

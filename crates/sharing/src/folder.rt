@@ -28,3 +28,13 @@ pub trait Folder {
     fn offer(&mut self, bytes: &[u8]) -> Result<(), Refusal>
         ensures logged { (log : List ℕ) → has_logged self.old log → has_logged self.new log };
 }
+
+/// To whom a worker tells which leaves are closed. Only an implementation states what the operating system does, by the ghost relation.
+pub trait Teller {
+    // `has_told teller text`: this text was told
+    ghost has_told: { Self → List ℕ → Type 0 } = { λ _ _. Unit {0} };
+
+    /// Tells lines. An error says that not all of them were told.
+    fn tell(&mut self, lines: &[u8]) -> Result<(), Refusal>
+        ensures told { OnOk result ((text : List ℕ) → has_told self.old text → has_told self.new (text ++ lines.now)) };
+}

@@ -8,8 +8,9 @@
 mod exchange;
 mod folder;
 mod inbox;
+mod known_leaves;
 mod peer;
 mod run;
 
-pub use folder::Folder;
-pub use run::{Asked, Shared, share};
+pub use folder::{Folder, Teller};
+pub use run::{Asked, Cell, Shared, share};

@@ -1,6 +1,7 @@
 //! Another worker of the cell, and what was read of its offers.
 
 use crate::inbox::Inbox;
+use crate::known_leaves::KnownLeaves;
 use memchr::memchr;
 use std::alloc::{AllocError, Global};
 
@@ -58,9 +59,14 @@ impl Peer {
     }
 
     /// Hands the line that has ended to the inbox; `row` is this worker's number.
-    fn end_line(&mut self, row: usize, inbox: &mut Inbox) -> Result<(), AllocError> {
+    fn end_line(
+        &mut self,
+        leaves: &KnownLeaves<'_>,
+        row: usize,
+        inbox: &mut Inbox,
+    ) -> Result<(), AllocError> {
         if !self.is_long {
-            inbox.read(row, &self.line)?;
+            inbox.read(leaves, row, &self.line)?;
         }
         self.line.clear();
         self.is_long = false;
@@ -71,6 +77,7 @@ impl Peer {
     pub(crate) fn take(
         &mut self,
         bytes: &[u8],
+        leaves: &KnownLeaves<'_>,
         row: usize,
         inbox: &mut Inbox,
     ) -> Result<(), AllocError> {
@@ -80,7 +87,7 @@ impl Peer {
             match memchr(b'\n', &bytes[from..]) {
                 Some(len) => {
                     self.keep(&bytes[from..from + len])?;
-                    self.end_line(row, inbox)?;
+                    self.end_line(leaves, row, inbox)?;
                     from += len + 1;
                 }
                 None => {

@@ -11,10 +11,10 @@ use Rattle.clause_arena.proofs.ClauseLaws.{stands_once}
 use Rattle.watches.specs.Trails.{TrailValue}
 use Rattle.watches.specs.inner.LiveClauses.{IsLiveWithin}
 use Rattle.watches.specs.declared.watched.watch.Watch.{Watch}
-use Rattle.watches.specs.inner.WatchLists.{literal_at, next_of, twin, IsIn, IsOnce, IsWatchList, AreWatchLists, AppendsTwo}
+use Rattle.watches.specs.inner.WatchLists.{literal_at, next_of, twin, last_of, IsIn, IsLink, IsOnce, IsWatchList, AreWatchLists, AppendsTwo}
 use Rattle.watches.specs.inner.Ready.{AreNamed}
 use Rattle.watches.specs.inner.WatchInvariants.{owner, no_clause, IsGuarded, IsPendingOrGuarded, IsLong, IsRootSatisfied, IsWatching, AreWatching}
-use Rattle.watches.proofs.WatchListLemmas.{chain_kept, chain_from}
+use Rattle.watches.proofs.WatchListLemmas.{in_left, in_right, in_either, last_in, last_push, once_push, chain_kept, chain_two, last_link, cell_apart}
 use Rattle.watches.proofs.TwinLemmas.{twins_of, twin_even, twin_odd}
 use Rattle.watches.proofs.SwapLemmas.{apart_at}
 use Rattle.watches.proofs.PendingLemmas.{index_high}
@@ -35,48 +35,49 @@ named_push clauses at h fresh i j hi hj e =
       ]
     ]
 
-pub record Appends (old new : List Watch) (C : Clause) : Type 0 where
+pub record Appends (old new : List Watch) (base : ℕ) (C : Clause) : Type 0 where
   pub long : length new ≡ length old + 2
-  pub first : next_of new 0 ≡ length old
+  pub first : next_of new (next_of old (base / 2)) ≡ length old
   pub second : next_of new (length old) ≡ length old + 1
-  pub third : next_of new (length old + 1) ≡ next_of old 0
-  pub others : (q : ℕ) → q ≢ 0 → q < length old → next_of new q ≡ next_of old q
+  pub third : next_of new (length old + 1) ≡ 0
+  pub last : next_of new (base / 2) ≡ length old + 1
+  pub others : (q : ℕ) → q ≢ next_of old (base / 2) → q ≢ base / 2 → q < length old → next_of new q ≡ next_of old q
   pub literals : (q : ℕ) → q < length old → literal_at new q ≡ literal_at old q
   pub one : (d : Literal) → 2 ≤ length C → literal_at new (length old) ≡ get_or C 0 d
   pub two : (d : Literal) → 2 ≤ length C → literal_at new (length old + 1) ≡ get_or C 1 d
 
-pub appends : (old new : List Watch) (C : Clause) (a b : Literal) → AppendsTwo old new a b → ((d : Literal) → 2 ≤ length C → (a ≡ get_or C 0 d) × (b ≡ get_or C 1 d)) → Appends old new C
-appends old new C a b h g = record { long = h.long; first = h.first; second = h.second; third = h.third; others = h.others; literals = h.literals; one = λ d l. h.literal_one ∙ (g d l).0; two = λ d l. h.literal_two ∙ (g d l).1 }
+pub appends : (old new : List Watch) (base : ℕ) (C : Clause) (a b : Literal) → AppendsTwo old new base a b → ((d : Literal) → 2 ≤ length C → (a ≡ get_or C 0 d) × (b ≡ get_or C 1 d)) → Appends old new base C
+appends old new base C a b h g = record { long = h.long; first = h.first; second = h.second; third = h.third; last = h.last; others = h.others; literals = h.literals; one = λ d l. h.literal_one ∙ (g d l).0; two = λ d l. h.literal_two ∙ (g d l).1 }
 
 module _ (W : Watches) (ys : List Watch) (m : Clauses) (t : TrailValue) (paths : ℕ → List ℕ) (w : IsWatching W m t paths)
     (whole : length W.places ≡ W.base + 2 * length W.clauses) (at : Ref) (C : Clause) (st : RefersTo m at C) (within : All (IsWithin t.vars) C) (differ : IsDistinct same C)
-    (fresh : (i : ℕ) → i < length W.clauses → (get_or W.clauses i no_clause).number ≢ at.number) (a : Appends W.places ys C) where
+    (fresh : (i : ℕ) → i < length W.clauses → (get_or W.clauses i no_clause).number ≢ at.number) (a : Appends W.places ys W.base C) where
   abbrev more : Watches
   more = record W { places = ys; clauses = W.clauses ++ at ∷ [] }
 
   abbrev with_two : ℕ → List ℕ
-  with_two k = cond (eqb k 0) (length W.places ∷ (length W.places + 1) ∷ paths 0) (paths k)
-
-  at_zero : with_two 0 ≡ length W.places ∷ (length W.places + 1) ∷ paths 0
-  at_zero = refl
+  with_two k = cond (eqb k 0) ((paths 0 ++ length W.places ∷ []) ++ (length W.places + 1) ∷ []) (paths k)
 
   elsewhere_same : (k : ℕ) → k ≢ 0 → with_two k ≡ paths k
-  elsewhere_same k n = ap (λ b. cond b (length W.places ∷ (length W.places + 1) ∷ paths 0) (paths k)) (ne_eqb k 0 n)
+  elsewhere_same k n = ap (λ b. cond b ((paths 0 ++ length W.places ∷ []) ++ (length W.places + 1) ∷ []) (paths k)) (ne_eqb k 0 n)
 
-  high : 0 < W.base
+  high : 0 < W.base / 2
   high = let b = w.wide in omega arith
 
   still : (q k : ℕ) → IsIn q (paths k) → IsIn q (with_two k)
   still q k h = elim (cases_eq k 0) [
-    | inl e ↦ subst (λ j. IsIn q (with_two j)) (sym e) (inr (inr (subst (λ j. IsIn q (paths j)) e h)))
+    | inl e ↦ subst (λ j. IsIn q (with_two j)) (sym e) (in_left q (paths 0 ++ length W.places ∷ []) ((length W.places + 1) ∷ []) (in_left q (paths 0) (length W.places ∷ []) (subst (λ j. IsIn q (paths j)) e h)))
     | inr n ↦ subst (IsIn q) (sym (elsewhere_same k n)) h
   ]
 
   was : (q k : ℕ) → IsIn q (with_two k) → ((k ≡ 0) × ((q ≡ length W.places) ⊎ (q ≡ length W.places + 1))) ⊎ IsIn q (paths k)
   was q k h = elim (cases_eq k 0) [
-    | inl e ↦ elim (subst (λ j. IsIn q (with_two j)) e h) [
-      | inl x ↦ inl (e, inl x)
-      | inr y ↦ elim y [ inl x ↦ inl (e, inr x) | inr z ↦ inr (subst (λ j. IsIn q (paths j)) (sym e) z) ]
+    | inl e ↦ elim (in_either q (paths 0 ++ length W.places ∷ []) ((length W.places + 1) ∷ []) (subst (λ j. IsIn q (with_two j)) e h)) [
+      | inl y ↦ elim (in_either q (paths 0) (length W.places ∷ []) y) [
+        | inl z ↦ inr (subst (λ j. IsIn q (paths j)) (sym e) z)
+        | inr z ↦ elim z [ inl x ↦ inl (e, inl x) | inr v ↦ absurd v ]
+      ]
+      | inr y ↦ elim y [ inl x ↦ inl (e, inr x) | inr v ↦ absurd v ]
     ]
     | inr n ↦ inr (subst (IsIn q) (elsewhere_same k n) h)
   ]
@@ -86,10 +87,12 @@ module _ (W : Watches) (ys : List Watch) (m : Clauses) (t : TrailValue) (paths :
 
   once : (k : ℕ) → IsOnce (with_two k)
   once k = elim (cases_eq k 0) [
-    | inl e ↦ subst (λ j. IsOnce (with_two j)) (sym e) (
-      (λ h. elim h [ inl x ↦ omega (arith, x) | inr y ↦ let b = old_low (length W.places) 0 y in omega (arith, b.1) ]),
-      ((λ h. let b = old_low (length W.places + 1) 0 h in omega (arith, b.1)), w.lists.once 0),
-    )
+    | inl e ↦ subst (λ j. IsOnce (with_two j)) (sym e) (once_push (length W.places + 1) (paths 0 ++ length W.places ∷ [])
+        (once_push (length W.places) (paths 0) (w.lists.once 0) (λ h. let b = old_low (length W.places) 0 h in omega (arith, b.1)))
+        (λ h. elim (in_either (length W.places + 1) (paths 0) (length W.places ∷ []) h) [
+          | inl y ↦ let b = old_low (length W.places + 1) 0 y in omega (arith, b.1)
+          | inr z ↦ elim z [ inl x ↦ omega (arith, x) | inr v ↦ v ]
+        ]))
     | inr n ↦ subst IsOnce (sym (elsewhere_same k n)) (w.lists.once k)
   ]
 
@@ -108,18 +111,58 @@ module _ (W : Watches) (ys : List Watch) (m : Clauses) (t : TrailValue) (paths :
     | inr l ↦ new_only q k l h ∙ sym (new_only q j l i)
   ]
 
-  kept_next : (q k : ℕ) → IsIn q (paths k) → next_of ys q ≡ next_of W.places q
-  kept_next q k h = let b = old_low q k h in let c = high in a.others q (λ e. omega (arith, b.0)) b.1
+  -- the last place of the pending list
+  end_is : next_of W.places (W.base / 2) ≡ last_of 0 (paths 0)
+  end_is = ap (next_of W.places) (let z : W.base / 2 ≡ W.base / 2 + 0 = omega arith in z) ∙ w.lists.ends 0 high
 
-  watch_list : (k : ℕ) → k < W.base → IsWatchList ys k (with_two k)
+  end_link : IsLink W.base (next_of W.places (W.base / 2))
+  end_link = subst (IsLink W.base) (sym end_is) (last_link W.base 0 (paths 0) high (λ q i. (old_low q 0 i).0))
+
+  -- a place of another list is not the last one of the pending list
+  not_end : (q k : ℕ) → k ≢ 0 → IsIn q (paths k) → q ≢ next_of W.places (W.base / 2)
+  not_end q k n h e = elim (last_in 0 (paths 0)) [
+    | inl x ↦ let b = old_low q k h in let c = high in omega (arith, b.0, e ∙ end_is, x)
+    | inr x ↦ n (w.lists.apart k 0 q h (subst (λ z. IsIn z (paths 0)) (sym (e ∙ end_is)) x))
+  ]
+
+  head_not_end : (k : ℕ) → k < W.base / 2 → k ≢ 0 → k ≢ next_of W.places (W.base / 2)
+  head_not_end k b n e = elim (last_in 0 (paths 0)) [
+    | inl x ↦ n (e ∙ end_is ∙ x)
+    | inr x ↦ let c = old_low (last_of 0 (paths 0)) 0 x in omega (arith, c.0, e ∙ end_is)
+  ]
+
+  same_place : (q k : ℕ) → IsIn q (paths k) → q ≢ next_of W.places (W.base / 2) → next_of ys q ≡ next_of W.places q
+  same_place q k h n = let b = old_low q k h in let c = high in a.others q n (λ e. omega (arith, b.0, e)) b.1
+
+  in_pending : (q : ℕ) → (q ≡ 0) ⊎ IsIn q (paths 0) → q ≢ last_of 0 (paths 0) → next_of ys q ≡ next_of W.places q
+  in_pending q h n = elim h [
+    | inl x ↦ let c = high in let d = w.low in a.others q (λ e. n (e ∙ end_is)) (λ e. omega (arith, x, e)) (omega (arith, x))
+    | inr x ↦ same_place q 0 x (λ e. n (e ∙ end_is))
+  ]
+
+  watch_list : (k : ℕ) → k < W.base / 2 → IsWatchList ys k (with_two k)
   watch_list k b = elim (cases_eq k 0) [
-    | inl e ↦ subst (λ j. IsWatchList ys j (with_two j)) (sym e) (a.first, (a.second, chain_from W.places ys 0 (length W.places + 1) (paths 0) a.third (λ q i. kept_next q 0 i) (w.lists.watch_list 0 high)))
-    | inr n ↦ subst (IsWatchList ys k) (sym (elsewhere_same k n)) (chain_kept W.places ys k (paths k) (a.others k n (let c = w.low in omega arith)) (λ q i. kept_next q k i) (w.lists.watch_list k b))
+    | inl e ↦ subst (λ j. IsWatchList ys j (with_two j)) (sym e)
+        (chain_two W.places ys 0 (length W.places) (length W.places + 1) (paths 0) (w.lists.watch_list 0 high) (ap (next_of ys) (sym end_is) ∙ a.first) a.second a.third in_pending
+        ((λ h. let c = old_low 0 0 h in let d = high in omega (arith, c.0)), w.lists.once 0))
+    | inr n ↦ subst (IsWatchList ys k) (sym (elsewhere_same k n)) (chain_kept W.places ys k (paths k)
+        (a.others k (head_not_end k b n) (λ e. omega (arith, e)) (let c = w.low in omega arith))
+        (λ q i. same_place q k i (not_end q k n i)) (w.lists.watch_list k b))
+  ]
+
+  ends : (k : ℕ) → k < W.base / 2 → next_of ys (W.base / 2 + k) ≡ last_of k (with_two k)
+  ends k b = elim (cases_eq k 0) [
+    | inl e ↦ subst (λ j. next_of ys (W.base / 2 + j) ≡ last_of j (with_two j)) (sym e)
+        (ap (next_of ys) (let z : W.base / 2 + 0 ≡ W.base / 2 = omega arith in z) ∙ a.last ∙ sym (last_push 0 (length W.places + 1) (paths 0 ++ length W.places ∷ [])))
+    | inr n ↦
+        a.others (W.base / 2 + k) (cell_apart W.base k (next_of W.places (W.base / 2)) b end_link) (λ e. n (omega (arith, e))) (let c = w.low in omega arith)
+        ∙ w.lists.ends k b ∙ ap (last_of k) (sym (elsewhere_same k n))
   ]
 
   lists : AreWatchLists ys W.base with_two
   lists = record {
     watch_list = watch_list;
+    ends = ends;
     once = once;
     apart = apart_chains;
     real = λ k q h. elim (was q k h) [
@@ -204,7 +247,10 @@ module _ (W : Watches) (ys : List Watch) (m : Clauses) (t : TrailValue) (paths :
         subst (λ l. IsGuarded t.entries W.head l (literal_at ys (twin q))) (sym (a.literals q o.1)) (subst (IsGuarded t.entries W.head (literal_at W.places q)) (sym (a.literals (twin q) (old_twin q o.1))) i.1),
       )
     ]
-    | inr e ↦ inl (elim e [ inl x ↦ inl x | inr x ↦ inr (inl x) ])
+    | inr e ↦ inl (elim e [
+      | inl x ↦ in_left q (paths 0 ++ length W.places ∷ []) ((length W.places + 1) ∷ []) (in_right q (paths 0) (length W.places ∷ []) (inl x))
+      | inr x ↦ in_right q (paths 0 ++ length W.places ∷ []) ((length W.places + 1) ∷ []) (inl x)
+    ])
   ]
 
   short : (i : ℕ) → W.base + 2 * i < length ys → (get_or (W.clauses ++ at ∷ []) i no_clause).len < 2 → IsIn (W.base + 2 * i) (with_two 0) ⊎ IsRootSatisfied m t.entries (get_or (W.clauses ++ at ∷ []) i no_clause)
@@ -215,7 +261,7 @@ module _ (W : Watches) (ys : List Watch) (m : Clauses) (t : TrailValue) (paths :
           | inl h ↦ inl (still (W.base + 2 * i) 0 h)
           | inr h ↦ inr (subst (IsRootSatisfied m t.entries) (sym e) h)
         ]
-    | inr g ↦ inl (inl (let l = a.long in omega arith))
+    | inr g ↦ inl (in_left (W.base + 2 * i) (paths 0 ++ length W.places ∷ []) ((length W.places + 1) ∷ []) (in_right (W.base + 2 * i) (paths 0) (length W.places ∷ []) (inl (let l = a.long in omega arith))))
   ]
 
   named : AreNamed (W.clauses ++ at ∷ [])

@@ -1,15 +1,15 @@
 -- A watch list that is emptied into the pending list.
-use Rattle.std.proofs.Common.{◌≡◌, ◌≢◌, ℕ, suc, ◌+◌, ◌<◌, ◌≤◌, inl, List, [], ◌∷◌, ◌++◌, length, get_or, refl, ap, sym, ◌∙◌, subst, arith}
+use Rattle.std.proofs.Common.{◌≡◌, ◌≢◌, ℕ, suc, ◌+◌, ◌/◌, ◌<◌, ◌≤◌, inl, List, [], ◌∷◌, ◌++◌, length, get_or, refl, ap, sym, ◌∙◌, subst, arith}
 use Rattle.dimacs.specs.logic.Literal.{Literal, IsWithin, negation, index_of}
 use Rattle.dimacs.proofs.LiteralLemmas.{index_below, negation-negation, IsWithin-negation}
 use Rattle.clause_arena.specs.Clauses.{Clauses}
 use Rattle.watches.specs.declared.trail.Assigned.{Assigned}
 use Rattle.watches.specs.Trails.{TrailValue, IsTrailValue}
 use Rattle.watches.specs.declared.watched.watch.Watch.{Watch}
-use Rattle.watches.specs.inner.WatchLists.{literal_at, next_of, IsIn, IsWatchList, Relinks}
+use Rattle.watches.specs.inner.WatchLists.{literal_at, next_of, IsIn, IsWatchList, Relinks, MayRelink}
 use Rattle.watches.specs.inner.WatchInvariants.{past_head, IsWatching, AreWatching, IsRelinked}
 use Rattle.watches.specs.inner.ListWalk.{left_behind}
-use Rattle.watches.proofs.WatchListLemmas.{after_l, moved_paths}
+use Rattle.watches.proofs.WatchListLemmas.{after_l, moved_paths, may_relink}
 use Rattle.watches.proofs.RelinkLemmas.{put}
 use Rattle.watches.proofs.StateLemmas.{advance}
 use Rattle.watches.proofs.ListWalkLemmas.{cons_of, left_behind_is}
@@ -17,7 +17,7 @@ use Rattle.watches.proofs.PendingLemmas.{index_high}
 use Rattle.watches.specs.Watches.{Watches}
 
 module _ (W : Watches) (m : Clauses) (t : TrailValue) (paths : ℕ → List ℕ) (w : IsWatching W m t paths) (f : Literal) (f_in : IsWithin t.vars f) where
-  pub first_head : index_of f < W.base
+  pub first_head : index_of f < W.base / 2
   first_head = let a = index_below t.vars f f_in in let b = w.wide in omega arith
 
   pub first_in : index_of f < length W.places
@@ -42,7 +42,11 @@ module _ (W : Watches) (m : Clauses) (t : TrailValue) (paths : ℕ → List ℕ)
     pub first_real : (W.base ≤ here) × (here < length W.places)
     first_real = w.lists.real (index_of f) here (subst (IsIn here) (sym first_more.1) (inl refl))
 
-    module _ (ys : List Watch) (v : Literal) (own : v ≡ literal_at W.places here) (r : Relinks W.places ys (index_of f) here 0 v) where
+    pub first_may : MayRelink W.places W.base (index_of f) (index_of f) here 0
+    first_may = may_relink W.places W.base paths (index_of f) (index_of f) here 0 [] first_more.0 w.lists w.low first_head (let a = first_head in omega arith)
+        (λ e. let a = index_high t.vars f f_in in omega arith) first_more.1 refl
+
+    module _ (ys : List Watch) (v : Literal) (own : v ≡ literal_at W.places here) (r : Relinks W.places ys W.base (index_of f) (index_of f) here 0 v) where
       apart_zero : 0 ≢ index_of f
       apart_zero e = let a = index_high t.vars f f_in in omega arith
 
@@ -73,8 +77,8 @@ module _ (U W : Watches) (m : Clauses) (t : TrailValue) (ready : AreWatching W m
   entry_now : (d : Assigned) → get_or t.entries W.head d ≡ e
   entry_now d = ap (λ n. get_or t.entries n d) (sym same_head) ∙ entry_is d
 
-  pub chain_low : first < W.base
-  chain_low = subst (λ n. n < W.base) (sym first_is) (first_head W m t ready.0 ready.1 (negation e.literal) falsified_in)
+  pub chain_low : first < W.base / 2
+  chain_low = subst (λ n. n < W.base / 2) (sym first_is) (first_head W m t ready.0 ready.1 (negation e.literal) falsified_in)
 
   pub chain_high : 0 < first
   chain_high = subst (λ n. 0 < n) (sym first_is) (index_high t.vars (negation e.literal) falsified_in)
@@ -98,9 +102,14 @@ module _ (U W : Watches) (m : Clauses) (t : TrailValue) (ready : AreWatching W m
     pub place_real : (W.base ≤ here) × (here < length W.places)
     place_real = first_real W m t ready.0 ready.1 (negation e.literal) falsified_in here next_first some
 
-    module _ (V : Watches) (v : Literal) (own : v ≡ literal_at W.places here) (r : Relinks W.places V.places first here 0 v) (s : IsRelinked W V) where
-      relinks_first : Relinks W.places V.places (index_of (negation e.literal)) here 0 v
-      relinks_first = subst (λ n. Relinks W.places V.places n here 0 v) first_is r
+    -- the watch may go to the pending list
+    pub place_may : MayRelink W.places W.base first first here 0
+    place_may = subst (λ n. MayRelink W.places W.base n n here 0) (sym first_is)
+        (first_may W m t ready.0 ready.1 (negation e.literal) falsified_in here next_first some)
+
+    module _ (V : Watches) (v : Literal) (own : v ≡ literal_at W.places here) (r : Relinks W.places V.places W.base first first here 0 v) (s : IsRelinked W V) where
+      relinks_first : Relinks W.places V.places W.base (index_of (negation e.literal)) (index_of (negation e.literal)) here 0 v
+      relinks_first = subst (λ n. Relinks W.places V.places W.base n n here 0 v) first_is r
 
       pub place_waits : AreWatching V m t
       place_waits = subst (λ X. AreWatching X m t) (sym s.rest) (_, delayed W m t ready.0 ready.1 (negation e.literal) falsified_in here next_first some V.places v own relinks_first)

@@ -23,10 +23,10 @@ use Rattle.watches.specs.inner.ScanLaws.{has_number}
 use Rattle.watches.proofs.LevelLemmas.{present_le}
 use Rattle.watches.proofs.TrailLemmas.{distinct_nil, holds_push, consistent}
 use Rattle.watches.specs.declared.watched.watch.Watch.{Watch}
-use Rattle.watches.specs.inner.WatchLists.{literal_at, next_of, twin, IsIn, IsOnce, IsWatchList, last_of, Relinks}
+use Rattle.watches.specs.inner.WatchLists.{literal_at, next_of, twin, IsIn, IsOnce, IsWatchList, last_of, Relinks, MayRelink}
 use Rattle.watches.specs.inner.WatchInvariants.{owner, no_clause, past_head, FindsWatch, IsLong, IsWatching, AreWatching, IsRelinked}
 use Rattle.watches.specs.inner.ListWalk.{IsConsistent, Walk, IsShorter, IsWalk, StopsAtConflict, Visits, left_behind, left_from}
-use Rattle.watches.proofs.WatchListLemmas.{in_left, in_right, in_either, apart_before, once_back, last_in, last_push, chain_rest, left_is, after_l, moved_paths}
+use Rattle.watches.proofs.WatchListLemmas.{in_left, in_right, in_either, apart_before, once_back, last_in, last_push, chain_rest, left_is, after_l, moved_paths, may_relink}
 use Rattle.watches.proofs.TwinLemmas.{twins_of, owner_twin, long_twin, parity}
 use Rattle.watches.proofs.GuardLemmas.{up_to_holds, holds_up_to, entry_holds}
 use Rattle.watches.specs.inner.ReadyLaws.{or_left, up_to_front}
@@ -123,7 +123,7 @@ same_swapped m at C i j st hi hj = record {
 -- ---- the place that is looked at
 module _ (W : Watches) (m : Clauses) (t : TrailValue) (f : Literal) (level previous here : ℕ)
     (w : Walk W m t f level previous) (is : here ≡ next_of W.places previous) (some : 0 < here) where
-  pub f_head : index_of f < W.base
+  pub f_head : index_of f < W.base / 2
   f_head = let a = index_below t.vars f w.f_in in let b = w.watching.wide in omega arith
 
   chain_behind : IsWatchList W.places previous w.rest
@@ -168,11 +168,15 @@ module _ (W : Watches) (m : Clauses) (t : TrailValue) (f : Literal) (level previ
     | inr h ↦ let a = done_real (last_of (index_of f) w.done) h in let c = index_below t.vars x b in let d = w.watching.wide in omega (arith, w.previous_is, a.0)
   ]
 
-  pub head_in : (x : Literal) → IsWithin t.vars x → (index_of x < W.base) × (index_of x < length W.places)
+  pub head_in : (x : Literal) → IsWithin t.vars x → (index_of x < W.base / 2) × (index_of x < length W.places)
   head_in x b = let c = index_below t.vars x b in let d = w.watching.wide in let e = w.watching.low in (omega arith, omega arith)
 
   pub head_apart : (x : Literal) → IsWithin t.vars x → index_of x ≢ here
   head_apart x b e = let c = head_in x b in omega (arith, c.0, here_long.0)
+
+  -- the watch may go to the list of another literal
+  pub may : (x : Literal) → IsWithin t.vars x → x ≢ f → MayRelink W.places W.base (index_of f) previous here (index_of x)
+  may x b n = may_relink W.places W.base w.paths (index_of f) previous here (index_of x) w.done behind.0 w.watching.lists w.watching.low f_head (head_in x b).0 (index_apart x f n) path_here w.previous_is
 
   pub owner_in : (here - W.base) / 2 < length W.clauses
   owner_in = let a = here_long.0 in let b = here_long.1 in let c = w.watching.partly in let d = w.watching.even in let e = w.watching.paired in omega arith
@@ -284,14 +288,14 @@ module _ (W : Watches) (m : Clauses) (t : TrailValue) (f : Literal) (level previ
 
   -- the place goes to another literal of its clause
   module _ (ys : List Watch) (x : Literal) (k : ℕ) (C : Clause) (st : RefersTo m (owner W here) C) (a : 2 ≤ k) (b : k < length C) (at_k : (d : Literal) → get_or C k d ≡ x) (differ : IsDistinct same C)
-      (free : holds t.entries (negation x) ≡ false) (r : Relinks W.places ys previous here (index_of x) x) where
+      (free : holds t.entries (negation x) ≡ false) (r : Relinks W.places ys W.base (index_of f) previous here (index_of x) x) where
     pub x_apart : x ≢ f
     x_apart e = false≢true (sym free ∙ ap (λ l. holds t.entries (negation l)) e ∙ w.f_false)
 
     abbrev went : Walk (record W { places = ys }) (insert m (owner W here).number ((owner W here).place, swap C (here % 2) k)) t f level previous
     went =
         let ha = index_apart x f x_apart in
-        let r' = subst (λ p. Relinks W.places ys p here (index_of x) x) w.previous_is r in
+        let r' = subst (λ p. Relinks W.places ys W.base (index_of f) p here (index_of x) x) w.previous_is r in
         record {
           paths = moved_paths w.paths (index_of f) (w.done ++ behind.0) (index_of x) here;
           done = w.done;
@@ -330,13 +334,13 @@ module _ (W : Watches) (m : Clauses) (t : TrailValue) (f : Literal) (level previ
       pub found_apart : x ≢ f
       found_apart e = false≢true (sym found.3 ∙ ap (λ l. holds t.entries (negation l)) e ∙ w.f_false)
 
-      pub moves_at : IsDistinct same ws → (new : Clauses) → ((C : Clause) → RefersTo m at C → new ≡ insert m at.number (at.place, swap C (here % 2) k)) → (ys : List Watch) (h : ℕ) → h ≡ index_of x → Relinks W.places ys previous here h x
+      pub moves_at : IsDistinct same ws → (new : Clauses) → ((C : Clause) → RefersTo m at C → new ≡ insert m at.number (at.place, swap C (here % 2) k)) → (ys : List Watch) (g h : ℕ) → g ≡ index_of f → h ≡ index_of x → Relinks W.places ys W.base g previous here h x
           → SameUpToOrder m new × (Walk (record W { places = ys }) new t f level previous × IsShorter W.places ys previous previous)
-      moves_at differ new says ys h head_is r =
+      moves_at differ new says ys g h from_is head_is r =
           let D = standing.0 in
           let e : new ≡ insert m at.number (at.place, swap D (here % 2) k) = says D stands_at in
           let kb : k < length D = subst (λ C. k < length C) ws_is found.1 in
-          let r' = subst (λ n. Relinks W.places ys previous here n x) head_is r in
+          let r' = subst (λ n. Relinks W.places ys W.base n previous here (index_of x) x) from_is (subst (λ n. Relinks W.places ys W.base g previous here n x) head_is r) in
           let z = side here in
           let a = two D standing.1 in
           let go = moves ys x k D standing.1 found.0 kb (subst (λ C. (d : Literal) → get_or C k d ≡ x) ws_is found.2) (subst (IsDistinct same) ws_is differ) found.3 r' in
@@ -419,7 +423,7 @@ walk_ends W m t f level previous w z is at l = advance W m t w.paths w.watching 
   none_left [] c h = refl
   none_left (q ∷ rest) c h = absurd (let a = h q (inl refl) in omega (arith, c.0))
 
-  low : index_of f < W.base
+  low : index_of f < W.base / 2
   low = let a = index_below t.vars f w.f_in in let b = w.watching.wide in omega arith
 
   rest_none : w.rest ≡ []

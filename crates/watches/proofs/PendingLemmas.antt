@@ -19,10 +19,10 @@ use Rattle.watches.specs.inner.LiveClauses.{IsLiveWithin}
 use Rattle.watches.specs.inner.ScanLaws.{has_number}
 use Rattle.watches.proofs.GuardLemmas.{guarded_free}
 use Rattle.watches.specs.declared.watched.watch.Watch.{Watch}
-use Rattle.watches.specs.inner.WatchLists.{literal_at, next_of, twin, IsIn, IsOnce, IsWatchList, last_of, Relinks}
+use Rattle.watches.specs.inner.WatchLists.{literal_at, next_of, twin, IsIn, IsOnce, IsWatchList, last_of, Relinks, MayRelink}
 use Rattle.watches.specs.inner.WatchInvariants.{owner, no_clause, FindsWatch, IsGuarded, IsLong, IsRootSatisfied, IsWatching, IsRelinked}
 use Rattle.watches.specs.inner.ListWalk.{IsConsistent, IsShorter, PendingWalk, VisitsPending, AllPendingSatisfied, IsSatisfied, left_behind}
-use Rattle.watches.proofs.WatchListLemmas.{in_left, in_right, in_either, apart_before, once_back, last_in, last_push, chain_rest, after_l, moved_paths}
+use Rattle.watches.proofs.WatchListLemmas.{in_left, in_right, in_either, apart_before, once_back, last_in, last_push, chain_rest, after_l, moved_paths, may_relink}
 use Rattle.watches.proofs.TwinLemmas.{parity}
 use Rattle.watches.proofs.SwapLemmas.{contains_swapped}
 use Rattle.watches.proofs.RelinkLemmas.{moved, put}
@@ -61,7 +61,7 @@ pending_left W m t previous w =
 -- the place that is looked at
 module _ (W : Watches) (m : Clauses) (t : TrailValue) (previous here : ℕ)
     (w : PendingWalk W m t previous) (is : here ≡ next_of W.places previous) (some : 0 < here) where
-  pub zero_head : 0 < W.base
+  pub zero_head : 0 < W.base / 2
   zero_head = let b = w.watching.wide in omega arith
 
   chain_behind : IsWatchList W.places previous w.rest
@@ -98,11 +98,15 @@ module _ (W : Watches) (m : Clauses) (t : TrailValue) (previous here : ℕ)
   ]
 
   -- a head other than 0
-  pub heads_apart : (h : ℕ) → h < W.base → 0 < h → previous ≢ h
+  pub heads_apart : (h : ℕ) → h < W.base / 2 → 0 < h → previous ≢ h
   heads_apart h b z e = elim (last_in 0 w.done) [
     | inl q ↦ omega (arith, w.previous_is)
     | inr i ↦ let a = done_real (last_of 0 w.done) i in omega (arith, w.previous_is, a.0)
   ]
+
+  -- the watch may go to another list
+  pub may : (h : ℕ) → h < W.base / 2 → 0 < h → MayRelink W.places W.base 0 previous here h
+  may h b z = may_relink W.places W.base w.paths 0 previous here h w.done behind.0 w.watching.lists w.watching.low zero_head b (λ e. omega arith) path_here w.previous_is
 
   pub owner_in : (here - W.base) / 2 < length W.clauses
   owner_in = let a = here_real.0 in let b = here_real.1 in let c = w.watching.partly in let d = w.watching.even in let e = w.watching.paired in omega arith
@@ -144,11 +148,11 @@ module _ (W : Watches) (m : Clauses) (t : TrailValue) (previous here : ℕ)
   }
 
   -- the place goes to the chain of its literal, or of those that are done with
-  module _ (ys : List Watch) (f : Literal) (h : ℕ) (lit : literal_at W.places here ≡ f) (h_head : h < W.base) (high : 0 < h)
+  module _ (ys : List Watch) (f : Literal) (h : ℕ) (lit : literal_at W.places here ≡ f) (h_head : h < W.base / 2) (high : 0 < h)
       (long_home : (v : Literal) → IsWithin t.vars v → h ≡ index_of v → (f ≡ v) × IsLong W here)
       (place : IsLong W here → (h ≡ 0) ⊎ ((h ≡ index_of f) × IsGuarded t.entries W.head f (literal_at W.places (twin here))))
       (settled : (i : ℕ) → W.base + 2 * i ≡ here → (get_or W.clauses i no_clause).len < 2 → (h ≡ 0) ⊎ IsRootSatisfied m t.entries (get_or W.clauses i no_clause))
-      (r : Relinks W.places ys previous here h f) where
+      (r : Relinks W.places ys W.base 0 previous here h f) where
     abbrev left_for : PendingWalk (record W { places = ys }) m t previous
     left_for =
         let apart_zero : h ≢ 0 = λ e. omega arith in
@@ -156,7 +160,7 @@ module _ (W : Watches) (m : Clauses) (t : TrailValue) (previous here : ℕ)
           paths = moved_paths w.paths 0 (w.done ++ behind.0) h here;
           done = w.done;
           rest = behind.0;
-          watching = put W ys m t w.paths w.watching f 0 h here w.done behind.0 zero_head h_head path_here apart_zero lit long_home place settled (subst (λ p. Relinks W.places ys p here h f) w.previous_is r);
+          watching = put W ys m t w.paths w.watching f 0 h here w.done behind.0 zero_head h_head path_here apart_zero lit long_home place settled (subst (λ p. Relinks W.places ys W.base 0 p here h f) w.previous_is r);
           path = after_l w.paths 0 h here w.done behind.0 path_here apart_zero;
           previous_is = w.previous_is;
           seen = w.seen;
@@ -169,7 +173,7 @@ module _ (W : Watches) (m : Clauses) (t : TrailValue) (previous here : ℕ)
   -- the place goes to another literal of its clause
   module _ (ys : List Watch) (f x : Literal) (k : ℕ) (C : Clause) (long : IsLong W here) (lit : literal_at W.places here ≡ f) (f_false : holds t.entries (negation f) ≡ true)
       (st : RefersTo m (owner W here) C) (a : 2 ≤ k) (b : k < length C) (at_k : (d : Literal) → get_or C k d ≡ x) (differ : IsDistinct same C)
-      (free : holds t.entries (negation x) ≡ false) (r : Relinks W.places ys previous here (index_of x) x) (side : here % 2 < 2) (high : 0 < index_of x) where
+      (free : holds t.entries (negation x) ≡ false) (r : Relinks W.places ys W.base 0 previous here (index_of x) x) (side : here % 2 < 2) (high : 0 < index_of x) where
     abbrev went : PendingWalk (record W { places = ys }) (insert m (owner W here).number ((owner W here).place, swap C (here % 2) k)) t previous
     went =
         let ha : index_of x ≢ 0 = λ e. omega arith in
@@ -177,7 +181,7 @@ module _ (W : Watches) (m : Clauses) (t : TrailValue) (previous here : ℕ)
           paths = moved_paths w.paths 0 (w.done ++ behind.0) (index_of x) here;
           done = w.done;
           rest = behind.0;
-          watching = moved W ys m t w.paths w.watching f x 0 here k w.done behind.0 C zero_head path_here ha long lit st a b at_k differ w.sound f_false free (subst (λ p. Relinks W.places ys p here (index_of x) x) w.previous_is r);
+          watching = moved W ys m t w.paths w.watching f x 0 here k w.done behind.0 C zero_head path_here ha long lit st a b at_k differ w.sound f_false free (subst (λ p. Relinks W.places ys W.base 0 p here (index_of x) x) w.previous_is r);
           path = after_l w.paths 0 (index_of x) here w.done behind.0 path_here ha;
           previous_is = w.previous_is;
           seen = λ p h. satisfied_swapped m t.entries (owner W p) (owner W here) C (here % 2) k st (omega arith) b (w.seen p h);
@@ -210,11 +214,11 @@ is_free es l Free h n k = h
 
 module _ (W : Watches) (m : Clauses) (t : TrailValue) (previous here : ℕ)
     (w : PendingWalk W m t previous) (is : here ≡ next_of W.places previous) (some : 0 < here) (long : IsLong W here) where
-  pub chain_in : (x : Literal) → IsWithin t.vars x → (index_of x < W.base) × (index_of x < length W.places)
+  pub chain_in : (x : Literal) → IsWithin t.vars x → (index_of x < W.base / 2) × (index_of x < length W.places)
   chain_in x b = let c = index_below t.vars x b in let d = w.watching.wide in let e = w.watching.low in (omega arith, omega arith)
 
   -- the place goes home: its literal is not false
-  pub goes_home : (ys : List Watch) (f : Literal) (h : ℕ) → f ≡ literal_at W.places here → h ≡ index_of f → holds t.entries (negation f) ≡ false → Relinks W.places ys previous here h f
+  pub goes_home : (ys : List Watch) (f : Literal) (h : ℕ) → f ≡ literal_at W.places here → h ≡ index_of f → holds t.entries (negation f) ≡ false → Relinks W.places ys W.base 0 previous here h f
       → PendingWalk (record W { places = ys }) m t previous × IsShorter W.places ys previous previous
   goes_home ys f h own at free r =
       let f_in : IsWithin t.vars f = subst (IsWithin t.vars) (sym own) (own_in W m t w.paths w.watching here long) in
@@ -235,7 +239,7 @@ module _ (W : Watches) (m : Clauses) (t : TrailValue) (previous here : ℕ)
           let two : 2 ≤ (get_or W.clauses i no_clause).len = subst (λ j. 2 ≤ (get_or W.clauses j no_clause).len) half long.2 in
           omega arith
 
-  pub goes_guarded : (ys : List Watch) (f : Literal) (h : ℕ) → f ≡ literal_at W.places here → h ≡ index_of f → IsGuarded t.entries W.head f (literal_at W.places (twin here)) → Relinks W.places ys previous here h f
+  pub goes_guarded : (ys : List Watch) (f : Literal) (h : ℕ) → f ≡ literal_at W.places here → h ≡ index_of f → IsGuarded t.entries W.head f (literal_at W.places (twin here)) → Relinks W.places ys W.base 0 previous here h f
       → PendingWalk (record W { places = ys }) m t previous × IsShorter W.places ys previous previous
   goes_guarded ys f h own at guard r =
       let f_in : IsWithin t.vars f = subst (IsWithin t.vars) (sym own) (own_in W m t w.paths w.watching here long) in
@@ -260,7 +264,7 @@ module _ (W : Watches) (m : Clauses) (t : TrailValue) (previous here : ℕ)
   pub goes_at : (f : Literal) → literal_at W.places here ≡ f → holds t.entries (negation f) ≡ true
       → (at : Ref) → at ≡ owner W here → (ws C : Clause) → ws ≡ C → RefersTo m at C → here % 2 < at.len → IsDistinct same ws
       → (k : ℕ) (x : Literal) → FindsWatch t.entries ws (Some (record { place = k; literal = x })) → IsWithin t.vars x
-      → (new : Clauses) → ((D : Clause) → RefersTo m at D → new ≡ insert m at.number (at.place, swap D (here % 2) k)) → (ys : List Watch) (h : ℕ) → h ≡ index_of x → Relinks W.places ys previous here h x
+      → (new : Clauses) → ((D : Clause) → RefersTo m at D → new ≡ insert m at.number (at.place, swap D (here % 2) k)) → (ys : List Watch) (h : ℕ) → h ≡ index_of x → Relinks W.places ys W.base 0 previous here h x
       → SameUpToOrder m new × (PendingWalk (record W { places = ys }) new t previous × IsShorter W.places ys previous previous)
   goes_at f lit f_false at owns ws C same_ws st side differ k x found x_in new says ys h head_is r =
       let e : new ≡ insert m at.number (at.place, swap C (here % 2) k) = says C st in
@@ -268,7 +272,7 @@ module _ (W : Watches) (m : Clauses) (t : TrailValue) (previous here : ℕ)
       let st' : RefersTo m (owner W here) C = subst (λ a. RefersTo m a C) owns st in
       let z : here % 2 < 2 = half here in
       let go = goes W m t previous here w is some ys f x k C long lit f_false st' found.0 kb (subst (λ D. (d : Literal) → get_or D k d ≡ x) same_ws found.2) (subst (IsDistinct same) same_ws differ) found.3
-      (subst (λ n. Relinks W.places ys previous here n x) head_is r) z (index_high t.vars x x_in) in
+      (subst (λ n. Relinks W.places ys W.base 0 previous here n x) head_is r) z (index_high t.vars x x_in) in
       let new_is : new ≡ insert m (owner W here).number ((owner W here).place, swap C (here % 2) k) = e ∙ ap (λ (b : Ref). insert m b.number (b.place, swap C (here % 2) k)) owns in (
         subst (SameUpToOrder m) (sym e) (same_swapped m at C (here % 2) k st (omega (arith, st.1)) kb),
         subst (λ n. PendingWalk (record W { places = ys }) n t previous × IsShorter W.places ys previous previous) (sym new_is) go,
@@ -352,7 +356,7 @@ index_two n (Neg v) h = omega (arith, h.0)
 -- a place of a short clause that is true at level 0 goes to those that are done with
 pub retires : (W : Watches) (m : Clauses) (t : TrailValue) (previous here : ℕ)
     (w : PendingWalk W m t previous) (is : here ≡ next_of W.places previous) (some : 0 < here) → (owner W here).len < 2 → IsRootSatisfied m t.entries (owner W here)
-    → (ys : List Watch) (f : Literal) → f ≡ literal_at W.places here → Relinks W.places ys previous here 1 f → PendingWalk (record W { places = ys }) m t previous × IsShorter W.places ys previous previous
+    → (ys : List Watch) (f : Literal) → f ≡ literal_at W.places here → Relinks W.places ys W.base 0 previous here 1 f → PendingWalk (record W { places = ys }) m t previous × IsShorter W.places ys previous previous
 retires W m t previous here w is some short sat ys f own r =
     leaves W m t previous here w is some ys f 1 (sym own) (let b = w.watching.wide in omega arith) (omega arith)
     (λ v b e. absurd (let i = index_two t.vars v b in omega arith))

@@ -18,7 +18,7 @@ use Rattle.watches.specs.ClauseNumbers.{numbers}
 use Rattle.watches.specs.inner.LiveClauses.{IsLiveWithin}
 use Rattle.watches.specs.inner.ScanLaws.{has_number, here_pushed}
 use Rattle.watches.specs.declared.watched.watch.Watch.{Watch}
-use Rattle.watches.specs.inner.WatchLists.{AppendsTwo}
+use Rattle.watches.specs.inner.WatchLists.{next_of, AppendsTwo}
 use Rattle.watches.specs.inner.WatchInvariants.{IsWatching, IsLong, no_clause, fresh_watches}
 use Rattle.watches.specs.Watches.{Watches, attached_of}
 use Rattle.watches.specs.inner.Ready.{AreNamed, AreWatches, IsReady}
@@ -40,7 +40,7 @@ ready_cut w now m t u gone level r v e a c l n = record {
 module _ (w : Watches) (cs : List Ref) (ls : List Bool) (among : w.clauses ≡ attached_of cs ls) (h : AreWatches w.places cs ls w.base w.stale)
     (k : Clauses) (t : TrailValue) (ys : List Watch) (at : Ref) (C : Clause) (one two : Literal)
     (fresh : Contains (numbers w.clauses) at.number → ⊥)
-    (appended : AppendsTwo w.places ys one two) where
+    (appended : AppendsTwo w.places ys w.base one two) where
   new_number : (i : ℕ) → i < length w.clauses → (get_or w.clauses i no_clause).number ≢ at.number
   new_number i l e = fresh (subst (Contains (numbers w.clauses)) e (has_number w.clauses i no_clause l))
 
@@ -52,6 +52,7 @@ module _ (w : Watches) (cs : List Ref) (ls : List Bool) (among : w.clauses ≡ a
     whole = omega (arith, appended.long, h.whole, length-append cs (at ∷ []));
     few = omega (arith, appended.long);
     even = h.even;
+    last = λ z. (inr (omega (arith, appended.last, h.whole)), omega (arith, appended.last, appended.long));
     marked = omega (arith, length-append cs (at ∷ []), length-append ls (true ∷ []), h.marked);
     named = subst AreNamed (sym attached_more) (named_push w.clauses at (subst AreNamed (sym among) h.named) new_number);
     none_gone = λ s. All-push (λ b. b ≡ true) ls true (h.none_gone s) refl;
@@ -65,7 +66,7 @@ module _ (w : Watches) (cs : List Ref) (ls : List Bool) (among : w.clauses ≡ a
     watching = λ s.
         let x = r.watching s in
         let all : w.clauses ≡ cs = among ∙ all_attached cs ls h.marked (h.none_gone s) in
-        some_watching w ys k t x.0 x.1 (omega (arith, h.whole, ap length all)) at C st within differ new_number (appends w.places ys C one two appended firsts);
+        some_watching w ys k t x.0 x.1 (omega (arith, h.whole, ap length all)) at C st within differ new_number (appends w.places ys w.base C one two appended firsts);
   }
 
 -- ---- numbers of clauses, by places
@@ -128,6 +129,7 @@ module _ (places : List Watch) (cs : List Ref) (ls : List Bool) (base : ℕ) (st
         whole = h.whole;
         few = h.few;
         even = h.even;
+        last = h.last;
         marked = omega (arith, length-set ls i false, h.marked);
         named = subst AreNamed (sym m.without) (named_removed (attached_of cs ls) m.place m.within h.named);
         none_gone = λ s. absurd (false≢true (sym s));
@@ -207,6 +209,7 @@ watches_followed places base old new ls stale moves f h = record {
   whole = omega (arith, h.whole, f.long);
   few = h.few;
   even = h.even;
+  last = h.last;
   marked = omega (arith, h.marked, f.long);
   named = named_followed (attached_of old ls) (attached_of new ls) (attached_followed moves old new ls f) h.named;
   none_gone = h.none_gone;
@@ -218,12 +221,14 @@ watches_followed places base old new ls stale moves f h = record {
       n i j l r (sym (g.each i no_clause l).number ∙ e ∙ (g.each j no_clause r).number)
 
 -- ---- the chains were made anew
--- heads with no places after them
-pub nothing_watched : (places : List Watch) (base : ℕ) (m : Clauses) (t : TrailValue) → 2 * t.vars + 2 ≤ base → base % 2 ≡ 0 → length places ≡ base → All (λ p. p.next.number ≡ 0) places
+-- cells of empty lists, with no places after them
+pub nothing_watched : (places : List Watch) (base : ℕ) (m : Clauses) (t : TrailValue) → 4 * t.vars + 4 ≤ base → base % 2 ≡ 0 → length places ≡ base
+    → ((l : ℕ) → l < base / 2 → next_of places l ≡ 0) → ((l : ℕ) → l < base / 2 → next_of places (base / 2 + l) ≡ l)
     → IsWatching (fresh_watches places [] base (length t.entries)) m t (λ _. [])
-nothing_watched places base m t wide even long ended = record {
+nothing_watched places base m t wide even long heads lasts = record {
   lists = record {
-    watch_list = λ l b. ended l _ (omega arith);
+    watch_list = heads;
+    ends = lasts;
     real = λ l p h. absurd h;
     once = λ l. tt;
     apart = λ l k p h i. absurd h;

@@ -25,11 +25,11 @@ use Rattle.watches.specs.Watches.{Watches}
 module _ (W : Watches) (ys : List Watch) (m : Clauses) (t : TrailValue) (paths : ℕ → List ℕ)
     (w : IsWatching W m t paths)
     (f x : Literal) (l p k : ℕ) (done rest : List ℕ) (C : Clause)
-    (f_head : l < W.base) (is : paths l ≡ done ++ p ∷ rest) (heads_apart : index_of x ≢ l) (long_p : IsLong W p) (lit_p : literal_at W.places p ≡ f)
+    (f_head : l < W.base / 2) (is : paths l ≡ done ++ p ∷ rest) (heads_apart : index_of x ≢ l) (long_p : IsLong W p) (lit_p : literal_at W.places p ≡ f)
     (st : RefersTo m (owner W p) C) (two : 2 ≤ k) (kb : k < length C) (at_k : (d : Literal) → get_or C k d ≡ x)
     (differ : IsDistinct same C)
     (sound : IsConsistent t.entries) (f_false : holds t.entries (negation f) ≡ true) (x_free : holds t.entries (negation x) ≡ false)
-    (r : Relinks W.places ys (last_of l done) p (index_of x) x) where
+    (r : Relinks W.places ys W.base l (last_of l done) p (index_of x) x) where
   there : IsIn p (paths l)
   there = subst (IsIn p) (sym is) (in_right p done (p ∷ rest) (inl refl))
 
@@ -45,7 +45,7 @@ module _ (W : Watches) (ys : List Watch) (m : Clauses) (t : TrailValue) (paths :
   x_in : IsWithin t.vars x
   x_in = subst (IsWithin t.vars) (at_k f) (all_C k f kb)
 
-  x_head : index_of x < W.base
+  x_head : index_of x < W.base / 2
   x_head = let a = index_below t.vars x x_in in let b = w.wide in omega arith
 
   abbrev now : ℕ → List ℕ
@@ -55,7 +55,7 @@ module _ (W : Watches) (ys : List Watch) (m : Clauses) (t : TrailValue) (paths :
   changed = insert m (owner W p).number ((owner W p).place, swap C (p % 2) k)
 
   lists : AreWatchLists ys W.base now
-  lists = chains_moved W.places ys W.base paths (l) (index_of x) p x done rest w.lists f_head x_head heads_apart is r
+  lists = chains_moved W.places ys W.base paths (l) (index_of x) p x done rest w.lists w.low f_head x_head heads_apart is r
 
   still : (q j : ℕ) → q ≢ p → IsIn q (paths j) → IsIn q (now j)
   still q j n h = still_in paths (l) (index_of x) p done rest is heads_apart q j n h
@@ -204,11 +204,11 @@ module _ (W : Watches) (ys : List Watch) (m : Clauses) (t : TrailValue) (paths :
 module _ (W : Watches) (ys : List Watch) (m : Clauses) (t : TrailValue) (paths : ℕ → List ℕ)
     (w : IsWatching W m t paths)
     (f : Literal) (l h p : ℕ) (done rest : List ℕ)
-    (f_head : l < W.base) (h_head : h < W.base) (is : paths l ≡ done ++ p ∷ rest) (heads_apart : h ≢ l) (lit_p : literal_at W.places p ≡ f)
+    (f_head : l < W.base / 2) (h_head : h < W.base / 2) (is : paths l ≡ done ++ p ∷ rest) (heads_apart : h ≢ l) (lit_p : literal_at W.places p ≡ f)
     (long_home : (v : Literal) → IsWithin t.vars v → h ≡ index_of v → (f ≡ v) × IsLong W p)
     (place : IsLong W p → (h ≡ 0) ⊎ ((h ≡ index_of f) × IsGuarded t.entries W.head f (literal_at W.places (twin p))))
     (settled : (i : ℕ) → W.base + 2 * i ≡ p → (get_or W.clauses i no_clause).len < 2 → (h ≡ 0) ⊎ IsRootSatisfied m t.entries (get_or W.clauses i no_clause))
-    (r : Relinks W.places ys (last_of l done) p h f) where
+    (r : Relinks W.places ys W.base l (last_of l done) p h f) where
   put_there : IsIn p (paths l)
   put_there = subst (IsIn p) (sym is) (in_right p done (p ∷ rest) (inl refl))
 
@@ -278,7 +278,7 @@ module _ (W : Watches) (ys : List Watch) (m : Clauses) (t : TrailValue) (paths :
 
   pub put : IsWatching (record W { places = ys }) m t put_now
   put = record {
-    lists = chains_moved W.places ys W.base paths l h p f done rest w.lists f_head h_head heads_apart is r;
+    lists = chains_moved W.places ys W.base paths l h p f done rest w.lists w.low f_head h_head heads_apart is r;
     wide = w.wide;
     even = w.even;
     low = omega (arith, r.long, w.low);

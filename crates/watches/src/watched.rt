@@ -1,12 +1,13 @@
 //! Propagation by two watched literals a clause (Moskewicz, Madigan, Zhao, Zhang and Malik 2001).
 //!
 //! Watch lists are linked lists through one vector of watches; a place is an index of this vector. Each attached clause owns two watches
-//! side by side in it; a watch has its literal and the place of the next watch of its list. The heads of the lists are the first places: a
-//! watch list for each literal, the pending list of watches that are still to be visited, and the list of retired watches, which need no
-//! visit any more.
+//! side by side in it; a watch has its literal and the place of the next watch of its list. The first places are cells, a head and a name
+//! of the last place for each list: a watch list for each literal, the pending list of watches that are still to be visited, and the list
+//! of retired watches, which need no visit any more.
 //!
-//! Why linked lists: a watch moves to another list by three writes, so that `propagate` takes no memory. And the clause's other watched
-//! literal is at the neighbouring place, where other solvers keep a blocking literal: if it is true, the clause is not read.
+//! Why linked lists: a watch moves to another list by five writes, so that `propagate` takes no memory. It comes to the end of that list,
+//! since a search meets fewer conflicts if what has stood in a list for longest is visited first (docs/dev/measured.md). And the clause's
+//! other watched literal is at the neighbouring place, where other solvers keep a blocking literal: if it is true, the clause is not read.
 
 ghost use Rattle.std.specs.Prelude.{◌≡◌, ◌+◌, ◌*◌, ◌<◌, []};
 ghost use Rattle.watches.specs.ClauseNumbers.{numbers};
@@ -30,7 +31,7 @@ use crate::moved_refs::update_refs;
 use crate::propagator::Propagator;
 use crate::trail::Trail;
 use crate::watched::lookup::find_clause;
-use crate::watched::rebuild::{first_two, put_heads};
+use crate::watched::rebuild::{first_two, put_cells};
 use crate::watched::watch::append;
 use crate::watched::watch_choice::put_best_first;
 use crate::watched::watch_lists::WatchLists;
@@ -38,8 +39,8 @@ use clause_arena::{Arena, Ref};
 use std::alloc::{AllocError, Global};
 use std::marker::Model;
 
-/// The greatest number of variables, so that the places of heads fit in 32 bits.
-const MOST_VARS: u32 = 2_147_483_647;
+/// The greatest number of variables, so that the places of the lists' cells fit in 32 bits.
+const MOST_VARS: u32 = 1_073_741_822;
 
 /// The greatest length of the vector of watches at which the places of two more still fit in 32 bits.
 const MOST_PLACES: usize = 4_294_967_294;
@@ -103,16 +104,17 @@ impl Propagator for Watched {
 
     ghost elsewhere = { λ w m k t h e. ready_elsewhere w m k t h e };
 
-    /// Makes the heads of the empty watch lists: one for each literal, and those of pending and of
+    /// Makes the cells of the empty watch lists: those of each literal, and those of pending and of
     /// retired watches.
     fn reserve(&mut self, vars: u32) -> Result<(), AllocError> {
         if vars > MOST_VARS {
             return Err(AllocError);
         }
-        let base = 2 * (vars as usize) + 2;
+        let lists = 2 * (vars as usize) + 2;
+        let base = 2 * lists;
         let alloc = *self.lists.places.allocator();
         let mut places = Vec::with_capacity(alloc, base)?;
-        put_heads(&mut places, base);
+        put_cells(&mut places, lists);
         self.lists.places = places;
         self.lists.clauses.clear();
         self.live.clear();
@@ -138,7 +140,7 @@ impl Propagator for Watched {
         self.lists.clauses.push_reserved(at);
         self.live.push_reserved(true);
         self.lists.positions.push_reserved(0);
-        append(&mut self.lists.places, pair.one, pair.two);
+        append(&mut self.lists.places, self.lists.base, pair.one, pair.two);
         Ok(())
     }
 

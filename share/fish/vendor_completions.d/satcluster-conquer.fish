@@ -7,6 +7,7 @@ complete -c satcluster-conquer -l jobs -x -d 'how many at a time; as many as cor
 complete -c satcluster-conquer -l depth -x -d 'how deep to split; 6'
 complete -c satcluster-conquer -l look -x -d 'look ahead, for about N leaves'
 complete -c satcluster-conquer -l cubes-from -r -d 'complete the cubes that this file lists'
+complete -c satcluster-conquer -l no-share -d 'leaves are jobs and share nothing, as with --jobs 1, another solver or engine, --block, --limit, --seconds, --no-race, --no-cuts, --compress, --receipts, --scratch'
 complete -c satcluster-conquer -l block -x -d 'leaves of a job; 16, or 4 of cadical'
 complete -c satcluster-conquer -l limit -x -d 'lemmas before a leaf is cut in two'
 complete -c satcluster-conquer -l seconds -x -d 'the same in seconds of a search'

@@ -1,8 +1,8 @@
 -- Queries of a session: results, cores, and the clauses that hold.
-use Rattle.std.specs.Prelude.{◌≡◌, ℕ, ◌+◌, ◌*◌, ◌<◌, Bool, List, ◌⊎◌, length, All, Contains}
+use Rattle.std.specs.Prelude.{◌≡◌, ℕ, ◌+◌, ◌*◌, ◌<◌, Bool, List, ◌⊎◌, length, slice_index_or, All, Contains}
 use Rattle.std.specs.List.{IsDistinct}
 use Rattle.dimacs.specs.logic.ClauseMap.{Live}
-use Rattle.dimacs.specs.logic.Literal.{Literal, Clause, IsTautology, IsTrueIn, IsWithin, negation, same}
+use Rattle.dimacs.specs.logic.Literal.{Literal, Clause, IsTautology, IsTrueIn, IsWithin, index_of, negation, same}
 use Rattle.dimacs.specs.logic.Propagation.{Rup}
 use Rattle.clause_arena.specs.Clauses.{Clauses, live_of}
 use Rattle.conflict_analysis.specs.declared.lemma.Lemma.{Lemma}
@@ -30,6 +30,10 @@ pub record RefutesQuery (live : Live) (vars : ℕ) (q : Cube) (lemma : Lemma) : 
   pub within : All (IsWithin vars) lemma.lits.items
   pub numbers : All IsClauseNumber lemma.hints.items
 
+-- a literal's property: it has the present stamp of the marks
+abbrev pub IsMarked : Marks → Literal → Type 0
+IsMarked m l = slice_index_or m.stamps.items (index_of l) 0 ≡ m.stamp
+
 -- the live clauses and F: each clause of F is live and no lemma, and each live clause follows from F
 pub record HasClauses (F : List Clause) (live : Live) (lemmas : List ℕ) : Type 0 where
   pub there : (C : Clause) → Contains F C → (n : ℕ) × (D : Clause) × live n D × AreTwins C D × ¬ (Contains lemmas n)
@@ -37,7 +41,7 @@ pub record HasClauses (F : List Clause) (live : Live) (lemmas : List ℕ) : Type
 
 -- a result's property: it is right for the clauses m, the trail t and the query q
 abbrev pub IsQueryResult : Clauses → TrailValue → Cube → QueryResult → Type 0
-IsQueryResult m t q sought.Model = NoneFalseOrUnit (live_of m) (holds t.entries) × AllHold t.entries q × IsTotal t
+IsQueryResult m t q sought.Model = NoneFalseOrUnit (live_of m) (holds t.entries) × AllHold t.entries q × IsTotal m t
 IsQueryResult m t q (sought.Failed lemma) = RefutesQuery (live_of m) t.vars q lemma
 IsQueryResult m t q sought.Limit = Unit {0}
 

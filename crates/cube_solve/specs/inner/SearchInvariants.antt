@@ -11,11 +11,12 @@ use Rattle.cube_solve.specs.inner.UnitClauses.{AreNoted}
 use Rattle.cube_solve.specs.declared.search.Search.{Search}
 use Rattle.cube_solve.specs.declared.state.State.{State}
 
--- a state's invariant: the propagator is ready, clauses and trail agree, and each unassigned variable is in the decision order
+-- a state's invariant: the propagator is ready, clauses and trail agree, and each unassigned variable of a clause is in the decision
+-- order
 pub record IsSteady {P : Type 0} (is_ready : P → Clauses → TrailValue → Type 0) (attached : P → List ℕ) (s : State P) : Type 0 where
   pub ready : is_ready s.propagator.now s.arena s.trail
   pub state : IsState (attached s.propagator.now) s.arena s.trail
-  pub order : IsOrder s.trail s.order
+  pub order : IsOrder s.arena s.trail s.order
 
 -- a search's invariant, after n lemmas over the base B
 pub record IsSearching {P : Type 0} (is_ready : P → Clauses → TrailValue → Type 0) (attached : P → List ℕ) (B : Cnf) (n : ℕ) (s : Search P) : Type 0 where

@@ -1,6 +1,7 @@
 -- Clauses, trail and assumptions of a search agree.
 use Rattle.std.specs.Prelude.{◌≡◌, ℕ, ◌≤◌, true, List, [], ◌⊎◌, None, Contains}
-use Rattle.dimacs.specs.logic.Literal.{Literal, Clause, IsWithin, negation}
+use Rattle.dimacs.specs.logic.ClauseMap.{Live}
+use Rattle.dimacs.specs.logic.Literal.{Literal, Clause, negation}
 use Rattle.clause_arena.specs.Clauses.{Clauses, live_of}
 use Rattle.conflict_analysis.specs.BuiltTrails.{AreBuilt, AreInside}
 use Rattle.watches.specs.Trails.{TrailValue, holds, up_to, present}
@@ -24,6 +25,10 @@ pub record IsAssuming (cube : List Literal) (entries : List Assigned) (assumed :
   pub decided : AreAssumed cube entries assumed
   pub full : (present entries ≤ assumed) ⊎ ((l : Literal) → Contains cube l → up_to entries assumed l ≡ true)
 
--- each variable of the trail is assigned
-abbrev pub IsTotal : TrailValue → Type 0
-IsTotal t = (l : Literal) → IsWithin t.vars l → (holds t.entries l ≡ true) ⊎ (holds t.entries (negation l) ≡ true)
+-- a literal's property: a live clause has it
+abbrev pub IsNamed : Live → Literal → Type 0
+IsNamed live l = (n : ℕ) × (C : Clause) × live n C × Contains C l
+
+-- each literal of a live clause is true or false
+abbrev pub IsTotal : Clauses → TrailValue → Type 0
+IsTotal m t = (l : Literal) → IsNamed (live_of m) l → (holds t.entries l ≡ true) ⊎ (holds t.entries (negation l) ≡ true)

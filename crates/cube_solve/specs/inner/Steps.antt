@@ -28,10 +28,10 @@ abbrev pub IsNext : TrailValue → List Literal → Next → Type 0
 IsNext t cube (next.Assume l) = Contains cube l × IsUnassigned t l
 IsNext t cube (next.Fails l) = Contains cube l × (holds t.entries (negation l) ≡ true) × (holds t.entries l ≡ false)
 IsNext t cube (next.Decide l) = AllHold t.entries cube × IsUnassigned t l
-IsNext t cube next.Done = AllHold t.entries cube × IsTotal t
+IsNext t cube next.Done = AllHold t.entries cube
 
 -- the end of a descent: it is right for the clauses m, the trail t and the cube
 abbrev pub IsFound : Clauses → TrailValue → List Literal → Found → Type 0
-IsFound m t cube found.Model = NoneFalseOrUnit (live_of m) (holds t.entries) × AllHold t.entries cube × IsTotal t
+IsFound m t cube found.Model = NoneFalseOrUnit (live_of m) (holds t.entries) × AllHold t.entries cube × IsTotal m t
 IsFound m t cube (found.Clause n) = IsConflict (live_of m) t.entries n
 IsFound m t cube (found.Assumption l) = Contains cube l × (holds t.entries (negation l) ≡ true)

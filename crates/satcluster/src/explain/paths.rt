@@ -119,6 +119,13 @@ pub(crate) fn paths_of<'a>(request: &'a Request<'_>) -> Paths<'a> {
         Request::Check { input, proof, .. } => {
             Paths::of(input, None, None).reading(proof, Subject::Proof)
         }
+        Request::Share { input, cubes, .. } => Paths::of(input, cubes, None),
+        Request::Weave {
+            input,
+            cubes,
+            log,
+            ..
+        } => Paths::of(input, cubes, Some(log)),
         Request::Cubes { input, .. } => Paths::of(input, None, None),
         Request::Look { input, .. } => Paths::of(input, None, None),
         Request::Drill { input, .. } => Paths::of(input, None, None),

@@ -7,7 +7,7 @@ use crate::explain::nearest::{known_commands, known_words, nearest};
 use crate::explain::sentence::tell;
 use crate::standard_input::is_sound;
 use explanations::{Reason, shown};
-use node_main::{UsageFault, command};
+use node_main::{Request, UsageFault, command};
 use std::alloc::AllocError;
 use std::rt::Runtime;
 
@@ -187,6 +187,14 @@ fn tell_help<R: Runtime + AllocGlobal>(rt: &R, words: &[&str]) -> Result<(), All
     Ok(())
 }
 
+/// Why the words of a request are refused though each is right by itself.
+fn together(request: &Request<'_>) -> Reason {
+    match request {
+        Request::Share { .. } => Reason::NotTogether,
+        _ => Reason::LeafOrLidrup,
+    }
+}
+
 /// Tells why words are refused: one of them by itself, or what they name together. For a call
 /// without words, somebody at a terminal gets the help.
 pub(crate) fn explain_words<R: Runtime + AllocGlobal>(rt: &R, words: &[&str], on_terminal: bool) {
@@ -197,7 +205,7 @@ pub(crate) fn explain_words<R: Runtime + AllocGlobal>(rt: &R, words: &[&str], on
     match command(rt.alloc(), words) {
         Ok(request) => {
             let reason = if is_sound(&request) {
-                Reason::LeafOrLidrup
+                together(&request)
             } else {
                 Reason::StandardInput
             };

@@ -59,12 +59,12 @@ IsLong W p = (W.base ≤ p) × (p < length W.places) × (2 ≤ (owner W p).len)
 abbrev pub IsRootSatisfied : Clauses → List Assigned → Ref → Type 0
 IsRootSatisfied m entries at = (C : Clause) → RefersTo m at C → (b : Literal) × Contains C b × (up_to entries 0 b ≡ true)
 
--- the invariant of watch lists, if `paths` has the places of each list, by its head. The first `base` places are the heads: 0 of the
--- pending list, 1 of the retired watches, the others of the watch lists of literals, by index. After them come two watches for each of the
--- first clauses; later clauses have none yet
+-- the invariant of watch lists, if `paths` has the places of each list, by its head. One half of the first `base` places are the heads: 0
+-- of the pending list, 1 of the retired watches, the others of the watch lists of literals, by index. The other half names the lists' last
+-- places. After them come two watches for each of the first clauses; later clauses have none yet
 pub record IsWatching (W : Watches) (m : Clauses) (t : TrailValue) (paths : ℕ → List ℕ) : Type 0 where
   pub lists : AreWatchLists W.places W.base paths
-  pub wide : 2 * t.vars + 2 ≤ W.base
+  pub wide : 4 * t.vars + 4 ≤ W.base
   pub even : W.base % 2 ≡ 0
   pub low : W.base ≤ length W.places
   pub paired : length W.places % 2 ≡ 0

@@ -81,7 +81,14 @@ impl WatchLists {
             Some(found) => {
                 save_position(&mut self.positions, row, found.place);
                 arena.swap(clause, here % 2, found.place);
-                self.relink(previous, here, found.literal.index(), found.literal);
+                let own = self.own_literal(here);
+                self.relink(
+                    own.index(),
+                    previous,
+                    here,
+                    found.literal.index(),
+                    found.literal,
+                );
                 return Visit::Moves;
             }
             None => {}

@@ -15,7 +15,7 @@ use crate::truth::Truth;
 use crate::watched::list_walk::recall;
 use crate::watched::replacement::find_watch;
 use crate::watched::visit::Visit;
-use crate::watched::watch_lists::WatchLists;
+use crate::watched::watch_lists::{PENDING, RETIRED, WatchLists};
 use clause_arena::Arena;
 use dimacs::Lit;
 
@@ -112,7 +112,7 @@ impl WatchLists {
         match trail.value(own) {
             Truth::False => {}
             _ => {
-                self.relink(previous, here, own.index(), own);
+                self.relink(PENDING, previous, here, own.index(), own);
                 return Visit::Moves;
             }
         }
@@ -120,7 +120,13 @@ impl WatchLists {
         match find_watch(arena.clause(clause), trail, 0) {
             Some(found) => {
                 arena.swap(clause, here % 2, found.place);
-                self.relink(previous, here, found.literal.index(), found.literal);
+                self.relink(
+                    PENDING,
+                    previous,
+                    here,
+                    found.literal.index(),
+                    found.literal,
+                );
                 Visit::Moves
             }
             None => {
@@ -167,7 +173,7 @@ impl WatchLists {
         let mine = trail.entry_of(own.negate());
         let theirs = trail.entry_of(other);
         if theirs.level <= mine.level {
-            self.relink(previous, here, own.index(), own);
+            self.relink(PENDING, previous, here, own.index(), own);
             Visit::Moves
         } else {
             Visit::Stays
@@ -224,7 +230,7 @@ impl WatchLists {
             return Visit::Stays;
         }
         let own = self.own_literal(here);
-        self.relink(previous, here, 1, own);
+        self.relink(PENDING, previous, here, RETIRED, own);
         Visit::Moves
     }
 }

@@ -10,7 +10,7 @@ ghost use Rattle.watches.specs.inner.ListWalk.{HasPropagated};
 
 use crate::trail::{Assigned, Trail};
 use crate::watched::list_walk::recall;
-use crate::watched::watch_lists::WatchLists;
+use crate::watched::watch_lists::{PENDING, WatchLists};
 use clause_arena::Arena;
 
 impl WatchLists {
@@ -68,7 +68,7 @@ impl WatchLists {
                 return;
             }
             let own = self.own_literal(here);
-            self.relink(first, here, 0, own);
+            self.relink(first, first, here, PENDING, own);
         }
     }
 }

@@ -1,8 +1,9 @@
 //! The rebuild of the watch lists after clauses were detached.
 
-ghost use Rattle.std.specs.Prelude.{◌≡◌, ◌+◌, ◌*◌, ◌%◌, ◌^◌, ◌<◌, ◌≤◌, true, false, [], All, length, slice_index_or, vec_capacity};
+ghost use Rattle.std.specs.Prelude.{◌≡◌, ℕ, ◌+◌, ◌*◌, ◌/◌, ◌%◌, ◌^◌, ◌<◌, ◌≤◌, true, false, [], All, length, slice_index_or, vec_capacity};
 ghost use Rattle.dimacs.specs.logic.Literal.{Literal};
 ghost use Rattle.watches.specs.inner.LiveClauses.{IsLiveWithin};
+ghost use Rattle.watches.specs.inner.WatchLists.{next_of};
 ghost use Rattle.watches.specs.inner.WatchInvariants.{watches_of, fresh_watches, AreWatching};
 ghost use Rattle.watches.specs.Watches.{attached_of};
 ghost use Rattle.watches.specs.inner.Ready.{AreNamed, AreWatches};
@@ -36,19 +37,30 @@ pub(crate) fn first_two(literals: &[Lit]) -> Pair
     }
 }
 
-/// Pushes the heads of `base` empty lists on the empty vector. It takes no memory.
-pub(crate) fn put_heads(places: &mut Vec<Watch>, base: usize)
+/// Pushes the cells of this many empty lists on the empty vector: the heads, and then the names of the last places, each of which is the
+/// head. It takes no memory.
+pub(crate) fn put_cells(places: &mut Vec<Watch>, lists: usize)
     requires none { places.old.items ≡ [] }
-    requires room { base ≤ vec_capacity places.old }
-    ensures long { length places.new.items ≡ base }
-    ensures ended { All (λ p. p.next.number ≡ 0) places.new.items }
+    requires room { 2 * lists ≤ vec_capacity places.old }
+    requires few { lists ≤ 2 ^ 31 }
+    ensures long { length places.new.items ≡ 2 * lists }
+    ensures heads { (l : ℕ) → l < lists → next_of places.new.items l ≡ 0 }
+    ensures lasts { (l : ℕ) → l < lists → next_of places.new.items (lists + l) ≡ l }
     ensures room { vec_capacity places.new ≡ vec_capacity places.old }
 {
     let literal = Lit::positive(Var::new(1));
-    for _i in 0..base {
+    for _i in 0..lists {
         places.push_reserved(Watch {
             literal,
             next: PlaceId { number: 0 },
+        });
+    }
+    for list in 0..lists {
+        places.push_reserved(Watch {
+            literal,
+            next: PlaceId {
+                number: list as u32,
+            },
         });
     }
 }
@@ -58,17 +70,17 @@ fn link_all(places: &mut Vec<Watch>, clauses: &[Ref], base: usize, arena: &Arena
     requires room { base + 2 * length clauses.now ≤ vec_capacity places.old }
     requires few { base + 2 * length clauses.now ≤ 2 ^ 32 }
     requires even { base % 2 ≡ 0 }
-    requires wide { 2 * trail.now.vars + 2 ≤ base }
+    requires wide { 4 * trail.now.vars + 4 ≤ base }
     requires named { AreNamed clauses.now }
     requires here { All (IsLiveWithin arena.now trail.now.vars) clauses.now }
     ensures watching { AreWatching (fresh_watches places.new.items clauses.now base (length trail.now.entries)) arena.now trail.now }
     ensures whole { length places.new.items ≡ base + 2 * length clauses.now }
 {
     places.clear();
-    put_heads(places, base);
+    put_cells(places, base / 2);
     for i in 0..clauses.len() {
         let pair = first_two(arena.clause(clauses[i]));
-        append(places, pair.one, pair.two);
+        append(places, base, pair.one, pair.two);
     }
 }
 
@@ -77,7 +89,7 @@ impl WatchLists {
     /// will be visited then, so that the whole trail counts as propagated. It takes no memory.
     pub(crate) fn rebuild(&mut self, live: &mut Vec<bool>, arena: &Arena, trail: &Trail)
         requires watches { AreWatches self.old.places.items self.old.clauses.items live.old.items self.old.base self.old.stale }
-        requires wide { 2 * trail.now.vars + 2 ≤ self.old.base }
+        requires wide { 4 * trail.now.vars + 4 ≤ self.old.base }
         requires here { All (IsLiveWithin arena.now trail.now.vars) (attached_of self.old.clauses.items live.old.items) }
         requires watching { self.old.stale ≡ false → AreWatching (record (watches_of self.old) { clauses = attached_of self.old.clauses.items live.old.items }) arena.now trail.now }
         ensures base { self.new.base ≡ self.old.base }

@@ -22,4 +22,6 @@ returns-in_default-clause-none c =
       no_receipt = other.not-receipt;
       no_cover = other.not-cover;
       no_session = other.not-session;
+      no_share = other.not-share;
+      no_weave = other.not-weave;
     })

@@ -14,7 +14,7 @@ use Rattle.cube_solve.proofs.ClauseLemmas.{is_added}
 use Rattle.cube_solve.proofs.LevelCutLemmas.{is_fresh}
 use Rattle.cube_solve.proofs.LogLemmas.{lemma_limits, lemma_line}
 use Rattle.cube_solve.proofs.MapLemmas.{not_live}
-use Rattle.cube_solve.proofs.DecisionOrderLemmas.{order_same}
+use Rattle.cube_solve.proofs.DecisionOrderLemmas.{asserting_false, order_added, order_same}
 use Rattle.cube_solve.proofs.StateLemmas.{state_learned}
 use Rattle.cube_solve.proofs.UnitClauseLemmas.{noted_added}
 use Rattle.cube_solve.proofs.search.Search.learn_conflict.Goals as goal
@@ -54,7 +54,7 @@ backtrack-requires g c = record {
   ready = (c.requires.steady).ready;
   state = (c.requires.steady).state;
   order = let t = c.args.self.now.state.trail in
-      subst (IsOrder t) (sym c.note.ensures) (order_same t c.args.self.now.state.order c.bump.new.self c.bump.ensures (c.requires.steady).order);
+      subst (IsOrder c.args.self.now.state.arena t) (sym c.note.ensures) (order_same c.args.self.now.state.arena t c.args.self.now.state.order c.bump.new.self c.bump.ensures (c.requires.steady).order);
 }
 
 pub add_clause-requires-clause-fresh : goal.add_clause-requires-clause-fresh
@@ -79,7 +79,10 @@ returns-clause-steady g c =
           (joined s.arena b.new.self.arena c.add_clause.new.arena c.args.id lits c.deref-4.result.now c.requires.numbers b.ensures.arena c.deref-4.ensures.value c.in_ok-add_clause.ensures.clauses)
           _ _ s.trail b.new.self.trail c.analyse_into.new.lemma.level (c.in_ok-add_clause.ensures.ok ∙ ap (λ (xs : List ℕ). xs ++ c.args.id ∷ []) b.ensures.attached)
           (c.requires.steady).state e.asserting e.within b.ensures.vars b.ensures.front b.ensures.kept;
-      order = (b.ensures.steady).order;
+      order = order_added b.new.self.arena c.add_clause.new.arena c.args.id lits b.new.self.trail b.new.self.order
+          (subst (λ (m : Clauses). IsAdded (live_of m) c.args.id lits (live_of c.add_clause.new.arena)) (sym b.ensures.arena)
+          (joined s.arena b.new.self.arena c.add_clause.new.arena c.args.id lits c.deref-4.result.now c.requires.numbers b.ensures.arena c.deref-4.ensures.value c.in_ok-add_clause.ensures.clauses))
+          (λ l i. b.ensures.waits l (asserting_false s.trail.entries lits c.analyse_into.new.lemma.level e.asserting l i)) (b.ensures.steady).order;
     }
 
 pub returns-clause-learns : goal.returns-clause-learns

@@ -2,12 +2,12 @@ use Rattle.std.proofs.Common.{ℕ, List, [], inl, inr, refl, sym, subst, ap, ◌
 use Rattle.std.specs.List.{All, Contains}
 use Rattle.std.proofs.lemmas.Bool.{eqb-false}
 use Rattle.std.proofs.lemmas.List.Elements.{All-filter, All-nil, Contains-get_or}
-use Rattle.std.proofs.lemmas.Result.{on_ok_weaker}
 use Rattle.clause_arena.specs.Clauses.{live_of}
 use Rattle.lrat_text.specs.Grammar.{IsClauseNumber}
 use Rattle.lrat_text.specs.WrittenLine.{line_of}
 use Rattle.lrat_text.specs.declared.step.Step.TheVariants.{Delete}
 use Rattle.cube_solve.specs.inner.Reduction.{AreAllExcept}
+use Rattle.cube_solve.proofs.DecisionOrderLemmas.{order_less}
 use Rattle.cube_solve.proofs.ReductionLemmas.{none_rising, less_none, less_same, lemmas_among, lemmas_kept, lemmas_moved, numbers_limits}
 use Rattle.cube_solve.proofs.search.Search.reduce.Goals as goal
 
@@ -31,14 +31,15 @@ delete-requires-clause-limits g c =
     (numbers_limits (live_of c.args.self.now.state.arena) c.args.self.now.state.trail.entries c.args.top c.in_ok-gone.gone.items c.requires.top c.requires.numbers c.in_ok-gone.ensures.spare)
 
 pub returns-clause-lemmas : goal.returns-clause-lemmas
-returns-clause-lemmas g c = on_ok_weaker c.compact_if_due.result
-    (λ less first h. lemmas_moved first (live_of c.delete_clauses.new.arena) (live_of c.compact_if_due.new.arena) c.keep_live.new.lemmas.items less
+returns-clause-lemmas g c = λ first h.
+    let less = c.in_ok-compact_if_due.ensures.less in
+    (lemmas_moved first (live_of c.delete_clauses.new.arena) (live_of c.compact_if_due.new.arena) c.keep_live.new.lemmas.items less
     (lemmas_kept first (live_of c.args.self.now.state.arena) c.delete_clauses.new.arena c.args.self.now.lemmas.items c.keep_live.new.lemmas.items c.keep_live.ensures h))
-    c.compact_if_due.ensures.less
 
 pub returns-clause-kept : goal.returns-clause-kept
-returns-clause-kept g c = on_ok_weaker c.compact_if_due.result
-    (λ less first h. inr (record {
+returns-clause-kept g c = λ first h.
+    let less = c.in_ok-compact_if_due.ensures.less in
+    (inr (record {
       ids = c.in_ok-gone.gone.items;
       some = (let n = eqb-false (vec_len c.in_ok-gone.gone) 0 (sym c.if-is_empty.ensures) in let e = c.in_ok-gone.gone.ok.0 in omega arith);
       top = c.args.top;
@@ -51,11 +52,11 @@ returns-clause-kept g c = on_ok_weaker c.compact_if_due.result
       less = less_same (live_of c.args.self.now.state.arena) (live_of c.delete_clauses.new.arena) (live_of c.compact_if_due.new.arena) c.in_ok-gone.gone.items
           (subst (λ (xs : List ℕ). AreAllExcept (live_of c.args.self.now.state.arena) xs (live_of c.delete_clauses.new.arena)) c.deref-4.ensures.value c.delete_clauses.ensures.less) less;
     }))
-    c.compact_if_due.ensures.less
 
 pub returns-clause-drops : goal.returns-clause-drops
-returns-clause-drops g c = on_ok_weaker c.compact_if_due.result
-    (λ less. record {
+returns-clause-drops g c =
+    let less = c.in_ok-compact_if_due.ensures.less in
+    (record {
       ids = c.in_ok-gone.gone.items;
       rising = c.in_ok-gone.ensures.rising;
       among = subst (λ (xs : List ℕ). All (Contains xs) c.in_ok-gone.gone.items) c.deref.ensures.value c.in_ok-gone.ensures.among;
@@ -67,4 +68,16 @@ returns-clause-drops g c = on_ok_weaker c.compact_if_due.result
         c.in_ok-delete.ensures ∙ ap (λ (xs : List ℕ). c.args.self.now.log ++ line_of c.args.top (Delete xs)) c.deref-2.ensures.value,
       );
     })
-    c.compact_if_due.ensures.less
+
+pub returns-clause-steady : goal.returns-clause-steady
+returns-clause-steady g c =
+    let s = c.args.self.now.state in
+    let e = c.in_ok-compact_if_due.ensures in
+    record {
+      ready = e.ready;
+      state = e.state;
+      order = order_less s.arena c.compact_if_due.new.arena c.in_ok-gone.gone.items s.trail s.order
+          (less_same (live_of s.arena) (live_of c.delete_clauses.new.arena) (live_of c.compact_if_due.new.arena) c.in_ok-gone.gone.items
+          (subst (λ (xs : List ℕ). AreAllExcept (live_of s.arena) xs (live_of c.delete_clauses.new.arena)) c.deref-4.ensures.value c.delete_clauses.ensures.less) e.less)
+          (c.requires.steady).order;
+    }

@@ -1,5 +1,5 @@
 use Rattle.std.proofs.Common.{◌≡◌, sym, ◌∙◌, subst}
-use Rattle.std.specs.List.{All}
+use Rattle.std.specs.List.{All, Contains}
 use Rattle.std.proofs.lemmas.List.Elements.{All-contains, Contains-get_or}
 use Rattle.dimacs.specs.logic.Literal.{Clause, IsWithin}
 use Rattle.clause_arena.specs.Clauses.{live_of}
@@ -11,8 +11,8 @@ use Rattle.cube_solve.proofs.SubsequenceLemmas.{part_trans}
 use Rattle.cube_solve.proofs.SessionLogLemmas.{failure, linked_search, tells_on}
 use Rattle.cube_solve.proofs.session.Session.ask.Goals as goal
 
-pub search_query-requires-clause-assuming : goal.search_query-requires-clause-assuming
-search_query-requires-clause-assuming g c = c.begin.ensures.assuming c.deref.result.now
+pub begin-requires-clause-marks : goal.begin-requires-clause-marks
+begin-requires-clause-marks g c = λ l m. subst (λ (C : Clause). Contains C l) (sym c.deref.ensures.value) (((c.in_ok-kept.ensures.marks).stamped l).0 m)
 
 pub returns-in-Model-clause-answer : goal.returns-in-Model-clause-answer
 returns-in-Model-clause-answer g c = λ F h.
@@ -21,13 +21,13 @@ returns-in-Model-clause-answer g c = λ F h.
     let e = c.in_ok-sought.ensures in
     let s = c.search_query.new.self.search in
     let t = s.state.trail in
-    let q = c.deref.result.now in
+    let q = c.deref-2.result.now in
     let r = c.in_ok-values-in-Model in
     let v : t.vars ≡ vars_of c.args.self.now = e.vars ∙ c.begin.ensures.vars ∙ k.ensures.vars in
     let f = subst (IsQueryResult s.state.arena t q) c.in-Model.is e.sought in
     subst (λ n. IsSolution n F A r.values) v
     (solution F A q _ s.state.arena t s.lemmas.items r.values (e.given F (c.begin.ensures.given F (k.ensures.given F h))) ((e.ready).steady).state f.0 f.1 f.2
-    (subst (λ (C : Clause). AreTwins A C) (sym c.deref.ensures.value) (k.ensures.marks).twins) (subst (λ n. All (IsWithin n) A) (sym v) c.requires.within) r.ensures.len r.ensures.values)
+    (subst (λ (C : Clause). AreTwins A C) (sym c.deref-2.ensures.value) (k.ensures.marks).twins) (subst (λ n. All (IsWithin n) A) (sym v) c.requires.within) r.ensures.len r.ensures.values)
 
 pub returns-in-Failed-clause-answer : goal.returns-in-Failed-clause-answer
 returns-in-Failed-clause-answer g c = λ F h.
@@ -36,12 +36,12 @@ returns-in-Failed-clause-answer g c = λ F h.
     let e = c.in_ok-sought.ensures in
     let s = c.search_query.new.self.search in
     let t = s.state.trail in
-    let q = c.deref.result.now in
+    let q = c.deref-2.result.now in
     let lemma = c.in-Failed.lemma in
     let core = c.in_ok-core-in-Failed in
     let f = subst (IsQueryResult s.state.arena t q) c.in-Failed.is e.sought in
     core_fails F A k.kept.items (live_of s.state.arena) t.vars s.lemmas.items lemma core.core.items (e.given F (c.begin.ensures.given F (k.ensures.given F h)))
-    (subst (λ (C : Clause). RefutesQuery (live_of s.state.arena) t.vars C lemma) c.deref.ensures.value f)
+    (subst (λ (C : Clause). RefutesQuery (live_of s.state.arena) t.vars C lemma) c.deref-2.ensures.value f)
     (subst (λ (C : Clause). ArePicked C lemma.lits.items core.core.items) c.deref-in-Failed.ensures.value (subst (λ (C : Clause). ArePicked c.deref-in-Failed.result.now C core.core.items) c.deref-in-Failed-2.ensures.value core.ensures.picked))
     (k.ensures.marks).twins (k.ensures.marks).part (k.ensures.marks).distinct
 
@@ -69,7 +69,7 @@ returns-in-Failed-clause-over g c =
     let core = c.in_ok-core-in-Failed in
     let p = subst (λ (C : Clause). ArePicked C c.in-Failed.lemma.lits.items core.core.items) c.deref-in-Failed.ensures.value (subst (λ (C : Clause). ArePicked c.deref-in-Failed.result.now C core.core.items) c.deref-in-Failed-2.ensures.value core.ensures.picked) in (
       (λ i d b. All-contains (IsWithin (vars_of c.args.self.now)) k.kept.items _ k.ensures.within (p.within _ (Contains-get_or core.core.items i d b))),
-      (subst (IsQueryResult s.state.arena s.state.trail c.deref.result.now) c.in-Failed.is c.in_ok-sought.ensures.sought).numbers,
+      (subst (IsQueryResult s.state.arena s.state.trail c.deref-2.result.now) c.in-Failed.is c.in_ok-sought.ensures.sought).numbers,
     )
 
 pub returns-in-Failed-clause-failed : goal.returns-in-Failed-clause-failed
@@ -77,12 +77,12 @@ returns-in-Failed-clause-failed g c = λ given M h.
     let e = c.in_ok-sought.ensures in
     let s = c.search_query.new.self.search in
     let t = s.state.trail in
-    let q = c.deref.result.now in
+    let q = c.deref-2.result.now in
     let lemma = c.in-Failed.lemma in
     let core = c.in_ok-core-in-Failed in
     let f = subst (IsQueryResult s.state.arena t q) c.in-Failed.is e.sought in
     failure (live_of s.state.arena) t.vars c.in_ok-kept.kept.items lemma core.core.items
-    (subst (λ (C : Clause). RefutesQuery (live_of s.state.arena) t.vars C lemma) c.deref.ensures.value f)
+    (subst (λ (C : Clause). RefutesQuery (live_of s.state.arena) t.vars C lemma) c.deref-2.ensures.value f)
     (subst (λ (C : Clause). ArePicked C lemma.lits.items core.core.items) c.deref-in-Failed.ensures.value (subst (λ (C : Clause). ArePicked c.deref-in-Failed.result.now C core.core.items) c.deref-in-Failed-2.ensures.value core.ensures.picked))
     M (linked_search c.search_query.new.self c.core_of.new.self core.ensures.search given M h)
 
@@ -93,11 +93,11 @@ returns-in-Model-clause-fits g c =
     let e = c.in_ok-sought.ensures in
     let s = c.search_query.new.self.search in
     let t = s.state.trail in
-    let q = c.deref.result.now in
+    let q = c.deref-2.result.now in
     let r = c.in_ok-values-in-Model in
     let v : t.vars ≡ vars_of c.args.self.now = e.vars ∙ c.begin.ensures.vars ∙ k.ensures.vars in
     let f = subst (IsQueryResult s.state.arena t q) c.in-Model.is e.sought in
-    query_true t r.values r.ensures.values A q f.1 (subst (λ (C : Clause). AreTwins A C) (sym c.deref.ensures.value) (k.ensures.marks).twins) (subst (λ n. All (IsWithin n) A) (sym v) c.requires.within)
+    query_true t r.values r.ensures.values A q f.1 (subst (λ (C : Clause). AreTwins A C) (sym c.deref-2.ensures.value) (k.ensures.marks).twins) (subst (λ n. All (IsWithin n) A) (sym v) c.requires.within)
 
 pub returns-in-Failed-clause-fits : goal.returns-in-Failed-clause-fits
 returns-in-Failed-clause-fits g c =
@@ -112,7 +112,7 @@ returns-in-Model-clause-live g c = λ given M h n C l.
     let s = c.search_query.new.self.search in
     let t = s.state.trail in
     let r = c.in_ok-values-in-Model in
-    let f = subst (IsQueryResult s.state.arena t c.deref.result.now) c.in-Model.is e.sought in
+    let f = subst (IsQueryResult s.state.arena t c.deref-2.result.now) c.in-Model.is e.sought in
     let d = (h.linked).forth n C l in
     let w = live_true t r.values r.ensures.values _ s.state.arena ((e.ready).steady).state f.0 f.2 n d.0 d.1 in
     (w.0, (d.2 w.0).1 w.1, w.2)

@@ -9,7 +9,7 @@ returns-clause-ready g c =
       steady = record {
         ready = (h.steady).ready;
         state = (h.steady).state;
-        order = order_same state.trail state.order c.diversify.new.self c.diversify.ensures (h.steady).order;
+        order = order_same state.arena state.trail state.order c.diversify.new.self c.diversify.ensures (h.steady).order;
       };
       below = h.below;
       lemmas = h.lemmas;

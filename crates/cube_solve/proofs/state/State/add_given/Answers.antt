@@ -7,6 +7,8 @@ use Rattle.watches.specs.Law.{SameUpToOrder}
 use Rattle.cube_solve.specs.inner.LearntLog.{AreBelow}
 use Rattle.cube_solve.specs.inner.Twins.{IsAdded}
 use Rattle.cube_solve.proofs.ClauseLemmas.{is_added}
+use Rattle.cube_solve.proofs.DecisionOrderLemmas.{order_added, order_inserted}
+use Rattle.cube_solve.proofs.JoiningLemmas.{calm_cut}
 use Rattle.cube_solve.proofs.MapLemmas.{not_live}
 use Rattle.cube_solve.proofs.StateLemmas.{state_given}
 use Rattle.cube_solve.proofs.state.State.add_given.Goals as goal
@@ -36,9 +38,12 @@ returns-clause-steady g c =
       ready = c.in_ok-add_clause.ensures.ready;
       state = state_given b.arena c.add_clause.new.arena c.args.id c.args.lits.now
           (joined s.arena b.arena c.add_clause.new.arena c.args.id c.args.lits.now c.requires.numbers c.backtrack.ensures.arena c.in_ok-add_clause.ensures.clauses)
-          _ _ b.trail c.in_ok-add_clause.ensures.ok (c.backtrack.ensures.steady).state c.backtrack.ensures.kept
+          _ _ b.trail c.in_ok-add_clause.ensures.ok (c.backtrack.ensures.steady).state
+          (calm_cut s.trail.entries b.trail.entries (c.backtrack.ensures.front).0 c.args.lits.now c.joining_level-level.result (c.backtrack.ensures.front).1 (c.backtrack.ensures.front).2 c.backtrack.ensures.kept c.joining_level-level.ensures)
           (subst (λ v. All (IsWithin v) c.args.lits.now) (sym c.backtrack.ensures.vars) c.requires.within);
-      order = (c.backtrack.ensures.steady).order;
+      order = order_added b.arena c.add_clause.new.arena c.args.id c.args.lits.now b.trail c.insert.new.self
+          (joined s.arena b.arena c.add_clause.new.arena c.args.id c.args.lits.now c.requires.numbers c.backtrack.ensures.arena c.in_ok-add_clause.ensures.clauses)
+          (λ l i f. c.insert.ensures.there l i) (order_inserted b.arena b.trail c.args.lits.now b.order c.insert.new.self c.insert.ensures (c.backtrack.ensures.steady).order);
     }
 
 pub returns-clause-added : goal.returns-clause-added

@@ -8,6 +8,7 @@ use Rattle.watches.specs.inner.ReasonLaws.{explained_alike}
 use Rattle.cube_solve.specs.inner.LearntLog.{AreBelow}
 use Rattle.cube_solve.specs.inner.Twins.{IsAdded}
 use Rattle.cube_solve.proofs.ClauseLemmas.{is_added}
+use Rattle.cube_solve.proofs.DecisionOrderLemmas.{fixed_free, order_added}
 use Rattle.cube_solve.proofs.RootUnitLemmas.{assuming_explained, order_alike}
 use Rattle.cube_solve.proofs.LevelCutLemmas.{up_to_has}
 use Rattle.cube_solve.proofs.MapLemmas.{not_live}
@@ -52,7 +53,8 @@ returns-clause-steady g c =
     record {
       ready = g.met.P.Propagator.explained c.add_clause.new.propagator k t u c.in_ok-add_clause.ensures.ready c.explain.ensures.vars alike;
       state = state_fixed s.arena k c.args.id (l ∷ []) a _ _ t u l refl c.in_ok-add_clause.ensures.ok (c.requires.steady).state (c.entries.ensures.valid).apart c.requires.within c.requires.fixed c.explain.ensures.vars x;
-      order = order_alike t u s.order c.explain.ensures.vars alike (c.requires.steady).order;
+      order = order_alike k t u s.order c.explain.ensures.vars alike
+          (order_added s.arena k c.args.id (l ∷ []) t s.order a (λ x i f. absurd (fixed_free t l x c.requires.fixed i f)) (c.requires.steady).order);
     }
 
 pub returns-clause-added : goal.returns-clause-added

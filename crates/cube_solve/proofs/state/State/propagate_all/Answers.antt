@@ -8,7 +8,8 @@ use Rattle.dimacs.specs.logic.Literal.{Clause}
 use Rattle.watches.specs.Law.{IsFixpoint, live_among}
 use Rattle.watches.specs.declared.trail.Assigned.{Assigned}
 use Rattle.cube_solve.proofs.AssumptionLemmas.{assuming_grows}
-use Rattle.cube_solve.proofs.DecisionOrderLemmas.{order_grows}
+use Rattle.cube_solve.proofs.ClauseLemmas.{same_back}
+use Rattle.cube_solve.proofs.DecisionOrderLemmas.{order_among, order_grows}
 use Rattle.cube_solve.proofs.StateLemmas.{state_after}
 use Rattle.cube_solve.proofs.state.State.propagate_all.Goals as goal
 
@@ -19,7 +20,8 @@ returns-clause-steady g c =
     record {
       ready = e.ready;
       state = state_after _ _ s.arena c.propagate-found.new.arena s.trail c.propagate-found.new.trail e.attached c.requires.state e.clauses e.trail;
-      order = order_grows s.trail c.propagate-found.new.trail s.order (e.trail).more (e.trail).vars (e.trail).entries c.requires.order;
+      order = order_among s.arena c.propagate-found.new.arena c.propagate-found.new.trail s.order (same_back s.arena c.propagate-found.new.arena e.clauses)
+          (order_grows s.arena s.trail c.propagate-found.new.trail s.order (e.trail).more (e.trail).vars (e.trail).entries c.requires.order);
     }
 
 pub returns-clause-longer : goal.returns-clause-longer

@@ -33,8 +33,8 @@ more c =
 fresh : (c : goal.After-append) → Contains (numbers (attached_of c.self.inside.lists.clauses.items c.self.inside.live.items)) c.args.at.number → ⊥
 fresh c = subst (λ (x : Watches). Contains (numbers x.clauses) c.args.at.number → ⊥) (sym c.self.view_is) c.requires.apart
 
-appended : (c : goal.After-append) → AppendsTwo c.self.inside.lists.places.items c.append.new.places.items c.first_two-pair.result.one c.first_two-pair.result.two
-appended c = subst (λ (ps : List Watch). AppendsTwo ps c.append.new.places.items c.first_two-pair.result.one c.first_two-pair.result.two) c.reserve-3.ensures.items c.append.ensures.appended
+appended : (c : goal.After-append) → AppendsTwo c.self.inside.lists.places.items c.append.new.places.items c.self.inside.lists.base c.first_two-pair.result.one c.first_two-pair.result.two
+appended c = subst (λ (ps : List Watch). AppendsTwo ps c.append.new.places.items c.self.inside.lists.base c.first_two-pair.result.one c.first_two-pair.result.two) c.reserve-3.ensures.items c.append.ensures.appended
 
 pub invariant_of-self-2 : goal.invariant_of-self-2
 invariant_of-self-2 c =

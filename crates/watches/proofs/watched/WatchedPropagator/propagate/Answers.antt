@@ -10,6 +10,7 @@ use Rattle.watches.specs.inner.WatchInvariants.{watches_of, AreWatching}
 use Rattle.watches.specs.Watches.{Watches, attached_of}
 use Rattle.watches.specs.inner.Ready.{AreNamed}
 use Rattle.watches.proofs.DetachLemmas.{all_attached}
+use Rattle.watches.proofs.WatchListLemmas.{pending_last}
 use Rattle.watches.proofs.watched.WatchedPropagator.propagate.Goals as goal
 
 -- what the clauses are, and are called
@@ -41,6 +42,9 @@ invariant_of-self c =
       whole = omega (arith, p.long, ap length (clauses_then c), base, r.base, r.whole);
       few = omega (arith, p.long, r.no_more, h.few);
       even = subst (λ n. n % 2 ≡ 0) base h.even;
+      last = λ _.
+          let w = c.propagate.ensures.ready.1 in
+          pending_last c.propagate.new.self.places.items c.propagate.new.self.base c.propagate.ensures.ready.0 w.lists w.low (let a = w.wide in omega arith);
       marked = r.marked ∙ ap length (sym (clauses_then c));
       named = subst AreNamed (sym (all c ∙ clauses_then c ∙ r.clauses)) h.named;
       none_gone = λ _. r.live;

@@ -1,4 +1,4 @@
-use Rattle.std.proofs.Common.{◌≡◌, ◌≤◌, [], List, length, get_or, take, sym, ap, subst, ◌∙◌, arith}
+use Rattle.std.proofs.Common.{◌≡◌, ◌/◌, ◌≤◌, [], List, length, get_or, take, sym, ap, subst, ◌∙◌, arith}
 use Rattle.std.specs.List.{IsDistinct}
 use Rattle.std.proofs.lemmas.List.{take_more, take_all, get_or-take, length-take-le}
 use Rattle.dimacs.specs.logic.Literal.{Literal, Clause, same}
@@ -6,14 +6,16 @@ use Rattle.clause_arena.specs.declared.reference.Ref.{Ref}
 use Rattle.watches.specs.inner.WatchInvariants.{AreWatching, fresh_watches, no_clause}
 use Rattle.watches.proofs.AttachLemmas.{appends, some_watching}
 use Rattle.watches.proofs.ReadyLemmas.{nothing_watched}
+use Rattle.watches.proofs.WatchListLemmas.{pending_last, link_apart}
+use Rattle.watches.specs.inner.WatchLists.{next_of}
 use Rattle.watches.proofs.watched.rebuild.link_all.Goals as goal
 
 pub loop-i-init : goal.loop-i-init
 loop-i-init c =
     record {
-      watching = ((λ _. []), nothing_watched c.put_heads.new.places.items c.args.base c.args.arena.now c.args.trail.now c.requires.wide c.requires.even c.put_heads.ensures.long c.put_heads.ensures.ended);
-      long = omega (arith, c.put_heads.ensures.long);
-      room = omega (arith, c.put_heads.ensures.room, c.clear.ensures.capacity, c.requires.room);
+      watching = ((λ _. []), nothing_watched c.put_cells.new.places.items c.args.base c.args.arena.now c.args.trail.now c.requires.wide c.requires.even (let a = c.requires.even in omega (arith, c.put_cells.ensures.long)) c.put_cells.ensures.heads c.put_cells.ensures.lasts);
+      long = let a = c.requires.even in omega (arith, c.put_cells.ensures.long);
+      room = omega (arith, c.put_cells.ensures.room, c.clear.ensures.capacity, c.requires.room);
     }
 
 pub clause-requires : goal.clause-requires
@@ -23,9 +25,13 @@ pub append-requires : goal.append-requires
 append-requires c =
     let l = c.loop-i-test.true in
     let long = c.loop-i.invariant.long in
+    let w = c.loop-i.invariant.watching.1 in
+    let last = pending_last c.loop-i.places.items c.args.base c.loop-i.invariant.watching.0 w.lists w.low (let a = c.requires.wide in omega arith) in
     record {
       room = omega (arith, c.loop-i.invariant.room);
       some = omega (arith, c.requires.wide);
+      last = last.1;
+      apart = link_apart c.args.base (next_of c.loop-i.places.items (c.args.base / 2)) (let a = c.requires.wide in omega arith) last.0;
       small = omega (arith, c.requires.few);
     }
 
@@ -43,7 +49,7 @@ loop-i-preserved c =
     let x = some_watching (fresh_watches c.loop-i.places.items (take i clauses) c.args.base (length c.args.trail.now.entries)) c.append.new.places.items c.args.arena.now c.args.trail.now old.watching.0 old.watching.1
     (omega (arith, old.long)) at h.0 h.1 h.2 (subst (IsDistinct same) words c.clause.ensures.distinct)
     (λ j b e. let s : j ≡ i = c.requires.named j i (omega arith) l (ap (λ (r : Ref). r.number) (sym (get_or-take i clauses j no_clause (omega arith))) ∙ e) in omega arith)
-    (appends c.loop-i.places.items c.append.new.places.items h.0 c.first_two-pair.result.one c.first_two-pair.result.two appended
+    (appends c.loop-i.places.items c.append.new.places.items c.args.base h.0 c.first_two-pair.result.one c.first_two-pair.result.two appended
     (subst (λ (C : Clause). (d : Literal) → 2 ≤ length C → (c.first_two-pair.result.one ≡ get_or C 0 d) × (c.first_two-pair.result.two ≡ get_or C 1 d)) words c.first_two-pair.ensures)) in
     record {
       watching = subst (λ (cs : List Ref). AreWatching (fresh_watches c.append.new.places.items cs c.args.base (length c.args.trail.now.entries)) c.args.arena.now c.args.trail.now) (sym (take_more clauses i no_clause l)) x;

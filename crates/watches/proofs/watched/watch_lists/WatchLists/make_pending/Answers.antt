@@ -20,13 +20,8 @@ relink-requires c =
     let high = D.chain_high (watches_of c.args.self.now) (watches_of c.watch_list.self) c.args.arena.now c.args.trail.now c.watch_list.invariant.ready c.watch_list.invariant.rest c.recall.ensures c.args.entry c.requires.head_in c.requires.entry_is c.index-first.result (c.index-first.ensures.value ∙ ap index_of c.negate.ensures) in
     let real = D.place_real (watches_of c.args.self.now) (watches_of c.watch_list.self) c.args.arena.now c.args.trail.now c.watch_list.invariant.ready c.watch_list.invariant.rest c.recall.ensures c.args.entry c.requires.head_in c.requires.entry_is c.index-first.result (c.index-first.ensures.value ∙ ap index_of c.negate.ensures) c.next_place-here.result c.next_place-here.ensures (omega arith) in
     record {
-      previous_in = D.chain_in (watches_of c.args.self.now) (watches_of c.watch_list.self) c.args.arena.now c.args.trail.now c.watch_list.invariant.ready c.watch_list.invariant.rest c.recall.ensures c.args.entry c.requires.head_in c.requires.entry_is c.index-first.result (c.index-first.ensures.value ∙ ap index_of c.negate.ensures);
-      at_in = real.1;
-      small = omega (arith, real.1, c.requires.few, c.watch_list.invariant.rest.long);
-      head_in = omega (arith, real.1);
-      apart = λ q. omega (arith, real.0, low);
-      apart_head = λ q. omega arith;
-      apart_both = λ q. omega (arith, high);
+      may = D.place_may (watches_of c.args.self.now) (watches_of c.watch_list.self) c.args.arena.now c.args.trail.now c.watch_list.invariant.ready c.watch_list.invariant.rest c.recall.ensures c.args.entry c.requires.head_in c.requires.entry_is c.index-first.result (c.index-first.ensures.value ∙ ap index_of c.negate.ensures) c.next_place-here.result c.next_place-here.ensures (omega arith);
+      few = omega (arith, c.requires.few, c.watch_list.invariant.rest.long);
     }
 
 pub watch_list-preserved : goal.watch_list-preserved

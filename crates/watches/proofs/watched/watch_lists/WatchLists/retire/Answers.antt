@@ -18,13 +18,8 @@ relink-requires c =
     let wide = c.requires.walk.watching.wide in
     let low = c.requires.walk.watching.low in
     record {
-      previous_in = K.previous_in (watches_of c.args.self.now) c.args.arena.now c.args.trail.now c.args.previous c.args.here c.requires.walk c.requires.here_is c.requires.there;
-      at_in = re.1;
-      small = omega (arith, re.1, c.requires.few);
-      head_in = omega arith;
-      apart = K.previous_apart (watches_of c.args.self.now) c.args.arena.now c.args.trail.now c.args.previous c.args.here c.requires.walk c.requires.here_is c.requires.there;
-      apart_head = λ e. omega (arith, re.0);
-      apart_both = K.heads_apart (watches_of c.args.self.now) c.args.arena.now c.args.trail.now c.args.previous c.args.here c.requires.walk c.requires.here_is c.requires.there 1 (omega arith) (omega arith);
+      may = K.may (watches_of c.args.self.now) c.args.arena.now c.args.trail.now c.args.previous c.args.here c.requires.walk c.requires.here_is c.requires.there 1 (omega arith) (omega arith);
+      few = c.requires.few;
     }
 
 pub owner_of-clause-requires-clause-low : goal.owner_of-clause-requires-clause-low

@@ -1,7 +1,7 @@
 use Rattle.std.proofs.Common.{refl, sym, ap, subst, ◌∙◌, arith}
 use Rattle.dimacs.specs.logic.Literal.{IsWithin, negation, index_of}
 use Rattle.watches.specs.Trails.{holds}
-use Rattle.watches.specs.inner.WatchLists.{literal_at, twin}
+use Rattle.watches.specs.inner.WatchLists.{literal_at, twin, MayRelink}
 use Rattle.watches.specs.inner.WatchInvariants.{watches_of}
 use Rattle.watches.proofs.EntryGuardLemmas.{guarded_by}
 use Rattle.watches.proofs.StepLemmas.{unmoved}
@@ -31,13 +31,8 @@ relink-requires c =
     let is = c.index.ensures.value in
     let re = K.here_real (watches_of c.args.self.now) c.args.arena.now c.args.trail.now c.args.previous c.args.here c.requires.walk c.requires.here_is c.requires.there in
     record {
-      previous_in = K.previous_in (watches_of c.args.self.now) c.args.arena.now c.args.trail.now c.args.previous c.args.here c.requires.walk c.requires.here_is c.requires.there;
-      at_in = re.1;
-      small = omega (arith, re.1, c.requires.few);
-      head_in = omega (arith, h.1);
-      apart = K.previous_apart (watches_of c.args.self.now) c.args.arena.now c.args.trail.now c.args.previous c.args.here c.requires.walk c.requires.here_is c.requires.there;
-      apart_head = λ e. omega (arith, h.0, re.0);
-      apart_both = λ e. K.heads_apart (watches_of c.args.self.now) c.args.arena.now c.args.trail.now c.args.previous c.args.here c.requires.walk c.requires.here_is c.requires.there (index_of own) h.0 hi (e ∙ is);
+      may = subst (MayRelink c.args.self.now.places.items c.args.self.now.base 0 c.args.previous c.args.here) (sym is) (K.may (watches_of c.args.self.now) c.args.arena.now c.args.trail.now c.args.previous c.args.here c.requires.walk c.requires.here_is c.requires.there _ h.0 hi);
+      few = c.requires.few;
     }
 
 pub returns-then-theirs-mine : goal.returns-then-theirs-mine

@@ -1,5 +1,6 @@
 use Rattle.std.proofs.Common.{sym, ap, subst, ◌∙◌, arith, Some}
-use Rattle.dimacs.specs.logic.Literal.{IsWithin, negation}
+use Rattle.dimacs.specs.logic.Literal.{IsWithin, negation, index_of}
+use Rattle.watches.specs.inner.WatchLists.{MayRelink}
 use Rattle.clause_arena.specs.Clauses.{live_of, RefersTo}
 use Rattle.watches.specs.Trails.{holds}
 use Rattle.watches.specs.declared.trail.Assigned.{Assigned}
@@ -41,20 +42,20 @@ swap-requires c =
     let l = WL.lens (watches_of c.args.self.now) c.args.arena.now c.args.trail.now (negation c.requires.walk.entry.literal) c.requires.walk.entry.level c.args.previous c.args.here c.requires.walk.walk c.requires.here_is c.requires.there c.owner_of-clause.result c.owner_of-clause.ensures c.clause.result.now c.clause.ensures.literals in
     record { live = (s.0, WL.stands_at (watches_of c.args.self.now) c.args.arena.now c.args.trail.now (negation c.requires.walk.entry.literal) c.requires.walk.entry.level c.args.previous c.args.here c.requires.walk.walk c.requires.here_is c.requires.there c.owner_of-clause.result c.owner_of-clause.ensures c.clause.result.now c.clause.ensures.literals); i_in = l.0; j_in = omega (arith, c.in-Some.ensures.1, l.1) }
 
+pub own_literal-own-requires : goal.own_literal-own-requires
+own_literal-own-requires c = (WL.here_long (watches_of c.args.self.now) c.args.arena.now c.args.trail.now (negation c.requires.walk.entry.literal) c.requires.walk.entry.level c.args.previous c.args.here c.requires.walk.walk c.requires.here_is c.requires.there).1
+
 pub relink-requires : goal.relink-requires
 relink-requires c =
     let x_in = WL.found_in (watches_of c.args.self.now) c.args.arena.now c.args.trail.now (negation c.requires.walk.entry.literal) c.requires.walk.entry.level c.args.previous c.args.here c.requires.walk.walk c.requires.here_is c.requires.there c.owner_of-clause.result c.owner_of-clause.ensures c.clause.result.now c.clause.ensures.literals c.in-Some.found.place c.in-Some.found.literal c.in-Some.ensures in
     let x_apart = WL.found_apart (watches_of c.args.self.now) c.args.arena.now c.args.trail.now (negation c.requires.walk.entry.literal) c.requires.walk.entry.level c.args.previous c.args.here c.requires.walk.walk c.requires.here_is c.requires.there c.owner_of-clause.result c.owner_of-clause.ensures c.clause.result.now c.clause.ensures.literals c.in-Some.found.place c.in-Some.found.literal c.in-Some.ensures in
-    let is = c.index.ensures.value in
-    let h = WL.head_in (watches_of c.args.self.now) c.args.arena.now c.args.trail.now (negation c.requires.walk.entry.literal) c.requires.walk.entry.level c.args.previous c.args.here c.requires.walk.walk c.requires.here_is c.requires.there c.in-Some.found.literal x_in in
+    let is = c.index-in-Some.ensures.value in
+    let from_is = c.index.ensures.value ∙ ap index_of (c.own_literal-own.ensures ∙ WL.here_lit (watches_of c.args.self.now) c.args.arena.now c.args.trail.now (negation c.requires.walk.entry.literal) c.requires.walk.entry.level c.args.previous c.args.here c.requires.walk.walk c.requires.here_is c.requires.there) in
+    let may = WL.may (watches_of c.args.self.now) c.args.arena.now c.args.trail.now (negation c.requires.walk.entry.literal) c.requires.walk.entry.level c.args.previous c.args.here c.requires.walk.walk c.requires.here_is c.requires.there c.in-Some.found.literal x_in x_apart in
     record {
-      previous_in = WL.previous_in (watches_of c.args.self.now) c.args.arena.now c.args.trail.now (negation c.requires.walk.entry.literal) c.requires.walk.entry.level c.args.previous c.args.here c.requires.walk.walk c.requires.here_is c.requires.there;
-      at_in = (WL.here_long (watches_of c.args.self.now) c.args.arena.now c.args.trail.now (negation c.requires.walk.entry.literal) c.requires.walk.entry.level c.args.previous c.args.here c.requires.walk.walk c.requires.here_is c.requires.there).1;
-      small = omega (arith, (WL.here_long (watches_of c.args.self.now) c.args.arena.now c.args.trail.now (negation c.requires.walk.entry.literal) c.requires.walk.entry.level c.args.previous c.args.here c.requires.walk.walk c.requires.here_is c.requires.there).1, c.requires.few);
-      head_in = omega (arith, h.1);
-      apart = WL.previous_apart (watches_of c.args.self.now) c.args.arena.now c.args.trail.now (negation c.requires.walk.entry.literal) c.requires.walk.entry.level c.args.previous c.args.here c.requires.walk.walk c.requires.here_is c.requires.there;
-      apart_head = λ e. WL.head_apart (watches_of c.args.self.now) c.args.arena.now c.args.trail.now (negation c.requires.walk.entry.literal) c.requires.walk.entry.level c.args.previous c.args.here c.requires.walk.walk c.requires.here_is c.requires.there c.in-Some.found.literal x_in (sym is ∙ e);
-      apart_both = λ e. WL.heads_apart (watches_of c.args.self.now) c.args.arena.now c.args.trail.now (negation c.requires.walk.entry.literal) c.requires.walk.entry.level c.args.previous c.args.here c.requires.walk.walk c.requires.here_is c.requires.there c.in-Some.found.literal x_in x_apart (e ∙ is);
+      may = subst (λ n. MayRelink c.args.self.now.places.items c.args.self.now.base n c.args.previous c.args.here c.index-in-Some.result) (sym from_is)
+          (subst (MayRelink c.args.self.now.places.items c.args.self.now.base (index_of (negation c.requires.walk.entry.literal)) c.args.previous c.args.here) (sym is) may);
+      few = c.requires.few;
     }
 
 pub push-requires : goal.push-requires
@@ -93,5 +94,6 @@ returns c =
 
 pub returns-in-Some : goal.returns-in-Some
 returns-in-Some c =
-    let go = WL.moves_at (watches_of c.args.self.now) c.args.arena.now c.args.trail.now (negation c.requires.walk.entry.literal) c.requires.walk.entry.level c.args.previous c.args.here c.requires.walk.walk c.requires.here_is c.requires.there c.owner_of-clause.result c.owner_of-clause.ensures c.clause.result.now c.clause.ensures.literals c.in-Some.found.place c.in-Some.found.literal c.in-Some.ensures c.clause.ensures.distinct c.swap.new.self c.swap.ensures c.relink.new.self.places.items c.index.result c.index.ensures.value c.relink.ensures.relinks in
+    let from_is = c.index.ensures.value ∙ ap index_of (c.own_literal-own.ensures ∙ WL.here_lit (watches_of c.args.self.now) c.args.arena.now c.args.trail.now (negation c.requires.walk.entry.literal) c.requires.walk.entry.level c.args.previous c.args.here c.requires.walk.walk c.requires.here_is c.requires.there) in
+    let go = WL.moves_at (watches_of c.args.self.now) c.args.arena.now c.args.trail.now (negation c.requires.walk.entry.literal) c.requires.walk.entry.level c.args.previous c.args.here c.requires.walk.walk c.requires.here_is c.requires.there c.owner_of-clause.result c.owner_of-clause.ensures c.clause.result.now c.clause.ensures.literals c.in-Some.found.place c.in-Some.found.literal c.in-Some.ensures c.clause.ensures.distinct c.swap.new.self c.swap.ensures c.relink.new.self.places.items c.index.result c.index-in-Some.result from_is c.index-in-Some.ensures.value c.relink.ensures.relinks in
     record { step = record { rest = c.relink.ensures.rest; grows = Grows-refl (live_among (numbers c.args.self.now.clauses.items) (live_of c.args.arena.now)) c.args.trail.now; same = go.0 }; visits = WL.walk_moves (watches_of c.args.self.now) (watches_of c.relink.new.self) c.args.arena.now c.swap.new.self c.args.trail.now c.args.previous c.args.here c.requires.walk c.relink.ensures.rest go.1 }

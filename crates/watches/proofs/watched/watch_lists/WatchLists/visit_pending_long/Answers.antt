@@ -9,6 +9,7 @@ use Rattle.watches.proofs.ScanLemmas.{Grows-refl, Grows-push, SameUpToOrder-refl
 use Rattle.watches.proofs.ListWalkLemmas.{holds_front, holds_pushed}
 use Rattle.watches.proofs.FalseWatchLemmas as P
 use Rattle.watches.specs.inner.WatchInvariants.{watches_of}
+use Rattle.watches.specs.inner.WatchLists.{MayRelink}
 use Rattle.watches.proofs.StepLemmas.{no_step, relinks_step}
 use Rattle.watches.proofs.PendingLemmas as K
 use Rattle.watches.proofs.watched.watch_lists.WatchLists.visit_pending_long.Goals as goal
@@ -27,13 +28,8 @@ relink-requires c =
     let is = c.index.ensures.value in
     let re = K.here_real (watches_of c.args.self.now) c.args.arena.now c.args.trail.now c.args.previous c.args.here c.requires.walk c.requires.here_is c.requires.there in
     record {
-      previous_in = K.previous_in (watches_of c.args.self.now) c.args.arena.now c.args.trail.now c.args.previous c.args.here c.requires.walk c.requires.here_is c.requires.there;
-      at_in = re.1;
-      small = omega (arith, re.1, c.requires.few);
-      head_in = omega (arith, h.1);
-      apart = K.previous_apart (watches_of c.args.self.now) c.args.arena.now c.args.trail.now c.args.previous c.args.here c.requires.walk c.requires.here_is c.requires.there;
-      apart_head = λ e. omega (arith, h.0, re.0);
-      apart_both = λ e. K.heads_apart (watches_of c.args.self.now) c.args.arena.now c.args.trail.now c.args.previous c.args.here c.requires.walk c.requires.here_is c.requires.there (index_of c.own_literal-own.result) h.0 hi (e ∙ is);
+      may = subst (MayRelink c.args.self.now.places.items c.args.self.now.base 0 c.args.previous c.args.here) (sym is) (K.may (watches_of c.args.self.now) c.args.arena.now c.args.trail.now c.args.previous c.args.here c.requires.walk c.requires.here_is c.requires.there _ h.0 hi);
+      few = c.requires.few;
     }
 
 pub returns-in_default : goal.returns-in_default
@@ -68,13 +64,8 @@ relink-requires-in-Some c =
     let is = c.index-in-Some.ensures.value in
     let re = K.here_real (watches_of c.args.self.now) c.args.arena.now c.args.trail.now c.args.previous c.args.here c.requires.walk c.requires.here_is c.requires.there in
     record {
-      previous_in = K.previous_in (watches_of c.args.self.now) c.args.arena.now c.args.trail.now c.args.previous c.args.here c.requires.walk c.requires.here_is c.requires.there;
-      at_in = re.1;
-      small = omega (arith, re.1, c.requires.few);
-      head_in = omega (arith, h.1);
-      apart = K.previous_apart (watches_of c.args.self.now) c.args.arena.now c.args.trail.now c.args.previous c.args.here c.requires.walk c.requires.here_is c.requires.there;
-      apart_head = λ e. omega (arith, h.0, re.0);
-      apart_both = λ e. K.heads_apart (watches_of c.args.self.now) c.args.arena.now c.args.trail.now c.args.previous c.args.here c.requires.walk c.requires.here_is c.requires.there (index_of c.in-Some.found.literal) h.0 hi (e ∙ is);
+      may = subst (MayRelink c.args.self.now.places.items c.args.self.now.base 0 c.args.previous c.args.here) (sym is) (K.may (watches_of c.args.self.now) c.args.arena.now c.args.trail.now c.args.previous c.args.here c.requires.walk c.requires.here_is c.requires.there _ h.0 hi);
+      few = c.requires.few;
     }
 
 pub returns-in-Some : goal.returns-in-Some
