@@ -1578,7 +1578,9 @@ class Cells(Case):
         self.refutes(self.HARD)
         whole = time.monotonic() - began
         self.forget(self.HARD)
-        while done < kills:
+        for _ in range(50 * kills):
+            if done >= kills:
+                break
             process = self.start(*words)
             for _ in range(workers):
                 time.sleep(self.draw.uniform(0.2, 0.5) * whole)
@@ -1594,6 +1596,7 @@ class Cells(Case):
                 continue
             self.assertEqual((20, ["s UNSATISFIABLE"]), self.end(process, "a start"))
             self.forget(self.HARD)
+        self.assertGreaterEqual(done, kills)
         self.refutes(self.HARD)
         self.assertEqual(["c.lrat"], [path.name for path in self.folder.glob("c.lrat*")])
 
@@ -1786,7 +1789,9 @@ class Kills(Case):
         whole = time.monotonic() - began
         self.forget(PIGEONS)
         done: Dict[str, int] = collections.Counter()
-        while min(done["scripts"], done["jobs"]) < kills:
+        for _ in range(50 * kills):
+            if min(done["scripts"], done["jobs"]) >= kills:
+                break
             process = self.start(*words)
             done["jobs"] += self.kill_jobs(process, whole)
             if process.poll() is None:
@@ -1795,6 +1800,8 @@ class Kills(Case):
                 self.wait_for("jobs of a killed script", lambda: not self.running(PIGEONS), 2)
             else:
                 self.left_alone(process)
+        else:
+            self.fail("killed too few: %s" % dict(done))
         if self.at("p.lrat").exists():
             self.at("p.lrat").unlink()
         self.ends(20, ["s UNSATISFIABLE"], *words)
@@ -1803,14 +1810,19 @@ class Kills(Case):
         print("%s: killed %d times, and %d of its jobs" % (engine, done["scripts"], done["jobs"]))
 
     def kill_jobs(self, process: subprocess.Popen, whole: float) -> int:
-        """Kills jobs of a run now and then, for a part of the time that a run takes."""
+        """Kills jobs of a run now and then, for a part of the time that a run takes, which begins
+        with its first job: a script may need longer to start than its jobs to end."""
+        self.wait_for("a job", lambda: process.poll() is not None or self.jobs_of(process))
         until, killed = time.monotonic() + self.draw.uniform(0.1, 0.5) * whole, 0
         while time.monotonic() < until and process.poll() is None:
-            time.sleep(self.draw.uniform(0, 0.03) * whole)
-            found = [job for job in self.running(PIGEONS) if job != process.pid]
+            found = self.jobs_of(process)
             if found and self.draw.random() < 0.5:
                 killed += kill(self.draw.choice(found))
+            time.sleep(self.draw.uniform(0, 0.03) * whole)
         return killed
+
+    def jobs_of(self, process: subprocess.Popen) -> List[int]:
+        return [job for job in self.running(PIGEONS) if job != process.pid]
 
     def left_alone(self, process: subprocess.Popen) -> None:
         """A run that came to its end; if not, a leaf's jobs were killed three times."""
