@@ -8,7 +8,7 @@ use Rattle.explanations.specs.declared.lines.Unit.{Unit}
 use Rattle.explanations.specs.declared.lines.Unit.TheVariants.{Line, Step}
 use Rattle.explanations.specs.declared.lines.Fault.{Fault}
 use Rattle.explanations.specs.declared.other_lines.Other.{Other}
-use Rattle.explanations.specs.declared.other_lines.Other.TheVariants.{Usage, InputUnread, CubesUnread, ProofUnread, AnswerUnread, OtherFormula, CubesAboveLimit, NoLeaf, NoSplit, LeafAboveLimit, NeedsRat, NoLinks, ProofUnwritten, NoMemory}
+use Rattle.explanations.specs.declared.other_lines.Other.TheVariants.{Usage, InputUnread, CubesUnread, ProofUnread, AnswerUnread, OtherFormula, CubesAboveLimit, NoLeaf, NoSplit, LeafAboveLimit, NeedsRat, NoLinks, ProofUnwritten, ClosesNothing, LogsChanged, TooManyLemmas, NoMemory}
 
 -- the first word of a text: the bytes before the first space
 abbrev pub first_word : List ℕ → List ℕ
@@ -70,4 +70,7 @@ line_of LeafAboveLimit = codes "c leaf above limit"
 line_of NeedsRat = codes "c proof needs RAT"
 line_of NoLinks = codes "c cannot open links"
 line_of ProofUnwritten = codes "c cannot write proof"
+line_of ClosesNothing = codes "c closes nothing"
+line_of LogsChanged = codes "c logs have changed"
+line_of TooManyLemmas = codes "c too many lemmas"
 line_of NoMemory = codes "c no memory"

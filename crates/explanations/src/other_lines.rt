@@ -35,6 +35,12 @@ pub enum Other {
     NoLinks,
     /// A file cannot be written.
     ProofUnwritten,
+    /// The logs of a cell close nothing.
+    ClosesNothing,
+    /// The logs of a cell changed between two readings.
+    LogsChanged,
+    /// The logs of a cell have too many lemmas for one log.
+    TooManyLemmas,
     /// Memory was refused.
     NoMemory,
 }
@@ -59,6 +65,9 @@ impl Other {
             "c proof needs RAT" => Some(Other::NeedsRat),
             "c cannot open links" => Some(Other::NoLinks),
             "c cannot write proof" => Some(Other::ProofUnwritten),
+            "c closes nothing" => Some(Other::ClosesNothing),
+            "c logs have changed" => Some(Other::LogsChanged),
+            "c too many lemmas" => Some(Other::TooManyLemmas),
             "c no memory" => Some(Other::NoMemory),
             _ => None,
         }
@@ -112,6 +121,18 @@ impl Other {
             Other::ProofUnwritten => (
                 "PROOF cannot be written, or it is a file that is read.",
                 "Name another file, in a folder that is there.",
+            ),
+            Other::ClosesNothing => (
+                "No log of the cell has a lemma that closes the formula or a leaf.",
+                "Let its workers go on: `satcluster share INPUT FOLDER`.",
+            ),
+            Other::LogsChanged => (
+                "A log of the cell was cut or changed while it was read.",
+                "Start `satcluster weave` again.",
+            ),
+            Other::TooManyLemmas => (
+                "The logs have more lemmas than one log can number.",
+                "Split the formula (`satcluster cubes`), and have a cell for each leaf.",
             ),
             Other::NoMemory => ("There was not memory enough.", MEMORY),
         };
