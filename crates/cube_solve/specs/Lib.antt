@@ -4,4 +4,5 @@ pub mod Outcome
 pub mod Subsequences
 pub mod Session
 pub mod SessionLog
+pub mod Stepwise
 pub mod inner

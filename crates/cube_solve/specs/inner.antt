@@ -11,3 +11,4 @@ pub mod State
 pub mod SearchInvariants
 pub mod Steps
 pub mod UnitClauses
+pub mod Turns

@@ -36,6 +36,7 @@ mod search;
 mod session;
 mod solve_cube;
 mod state;
+mod stepwise;
 mod unit_clauses;
 mod vmtf_queue;
 
@@ -44,3 +45,4 @@ pub use observer::{Counts, Observer, Unobserved};
 pub use outcome::{Outcome, Searched};
 pub use session::Session;
 pub use solve_cube::{solve, solve_by, solve_observed};
+pub use stepwise::{Advance, End, Stepwise};

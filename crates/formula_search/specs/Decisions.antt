@@ -52,16 +52,24 @@ pub record Proves (F : Cnf) (limit : Option ℕ) (text : List ℕ) : Type 0 wher
   pub closes : Closes F [] text
   pub brief : IsBrief F (allowed (most_of limit) + 1) text
 
--- status 20: the report has a proof of the formula
-pub record IsRefuted (F : Cnf) (asked : Asked) (r : Report) : Type 0 where
+-- status 20: there is a proof of the formula, of which `kept` tells where it is
+pub record IsRefutedBy (F : Cnf) (asked : Asked) (kept : List ℕ → Type 0) (r : Report) : Type 0 where
   pub status : r.status ≡ 20
   pub proof : List ℕ
   pub proves : Proves F asked.limit proof
-  pub there : r.proof ≡ Some proof
+  pub there : kept proof
   pub counts : Counts
   pub counted : IsCountedToEnd F counts proof
   pub bytes : length proof ≡ counts.bytes
   pub text : r.stdout.items ≡ Lines Unsatisfiable asked.witness ++ stats_text asked.stats counts
+
+-- status 20: the report has a proof of the formula
+abbrev pub IsRefuted : Cnf → Asked → Report → Type 0
+IsRefuted F asked r = IsRefutedBy F asked (λ proof. r.proof ≡ Some proof) r
+
+-- status 20: there is a proof of the formula, of which `has` tells where it is, and which is not in the report
+abbrev pub IsRefutedTo : Cnf → Asked → (List ℕ → Type 0) → Report → Type 0
+IsRefutedTo F asked has r = IsRefutedBy F asked (λ proof. has proof × (r.proof ≡ None)) r
 
 -- status 0: a limit is named, and the search learnt as many lemmas as it allows, up to a conflict that needs one more
 pub record IsGivenUp (F : Cnf) (asked : Asked) (r : Report) : Type 0 where
@@ -81,3 +89,7 @@ pub record IsGivenUp (F : Cnf) (asked : Asked) (r : Report) : Type 0 where
 -- `Decides F asked report`: the report says that the formula is satisfiable, unsatisfiable or given up, with the evidence for it
 abbrev pub Decides : Cnf → Asked → Report → Type 0
 Decides F asked r = IsSatisfied F asked r ⊎ IsRefuted F asked r ⊎ IsGivenUp F asked r
+
+-- `DecidesTo F asked has report`: the same of a report without its proof, of which `has` tells where it is
+abbrev pub DecidesTo : Cnf → Asked → (List ℕ → Type 0) → Report → Type 0
+DecidesTo F asked has r = IsSatisfied F asked r ⊎ IsRefutedTo F asked has r ⊎ IsGivenUp F asked r

@@ -1,2 +1,2 @@
 -- What only private contracts, invariants and proofs name. Nothing here is to be believed.
-pub mod Wholes
+pub mod Streams

@@ -5,7 +5,12 @@
 #![tactic(auto)]
 
 mod decision;
-mod kept_search;
+mod kept_streaming;
+mod log_sink;
 mod stats;
+mod streamed_decision;
+mod streaming;
 
 pub use decision::{Asked, decide};
+pub use log_sink::{KeptText, LogSink, Nowhere};
+pub use streamed_decision::decide_to;
