@@ -3,6 +3,7 @@
 
     tools/files_test.py PATH-OF-satcluster [CASE ..]
 """
+import functools
 import os
 import resource
 import shutil
@@ -16,13 +17,14 @@ from typing import Callable, List, NamedTuple, Optional
 
 sys.dont_write_bytecode = True
 
-from cases import EXAMPLES, run
+from cases import EXAMPLES, pigeons, run
 
 FOUR = EXAMPLES / "four_clauses.cnf"
 STOOD = b"what stood there\n"
 NOBODY = 65534
 PARTS = 100  # names that are tried for a part
 SECONDS = 60
+HOLES = 8  # the proof has 15,000 lemmas in 2 MB, so it goes to its file while it is found
 
 
 class End(NamedTuple):
@@ -30,9 +32,9 @@ class End(NamedTuple):
     lines: List[str]
 
 
-def few_bytes() -> None:
+def few_bytes(most: int = 8) -> None:
     """Limits the size of each file, as a full disk does."""
-    resource.setrlimit(resource.RLIMIT_FSIZE, (8, 8))
+    resource.setrlimit(resource.RLIMIT_FSIZE, (most, most))
     signal.signal(signal.SIGXFSZ, signal.SIG_IGN)
 
 
@@ -126,6 +128,32 @@ class Files(unittest.TestCase):
             self.assertNotEqual(1, self.call(*words).status, words)
             self.assertNotEqual(STOOD, self.out.read_bytes(), words)
             self.assertEqual(["OUT"], [path.name for path in self.folder.iterdir()], words)
+
+    def test_while_it_is_found(self) -> None:
+        """A long proof of `decide` goes to its file in parts, and is the one that a pipe gets."""
+        (self.top / "p.cnf").write_text(pigeons(HOLES))
+        for words in (["decide", "p.cnf"], ["decide", "--binary", "p.cnf"]):
+            self.out.write_bytes(STOOD)
+            self.ends(*words, "folder/OUT", status=20)
+            self.ends("check", "p.cnf", "folder/OUT", status=0)
+            self.assertEqual(["OUT"], [path.name for path in self.folder.iterdir()], words)
+            os.mkfifo(str(self.top / "pipe"))
+            got = self.top / "got"
+            with got.open("wb") as file, subprocess.Popen(["cat", "pipe"], cwd=str(self.top), stdout=file):
+                self.ends(*words, "pipe", status=20)
+            self.assertEqual(self.out.read_bytes(), got.read_bytes(), words)
+            (self.top / "pipe").unlink()
+
+    def test_disk_that_fills(self) -> None:
+        """What was written of a long proof is removed, and what stood there stands."""
+        (self.top / "p.cnf").write_text(pigeons(HOLES))
+        self.out.write_bytes(STOOD)
+        for words in (["decide", "p.cnf"], ["decide", "--binary", "p.cnf"]):
+            for most in (8, 100_000, 500_000):
+                end = self.call(*words, "folder/OUT", before=functools.partial(few_bytes, most))
+                self.assertEqual((1, ["c cannot write proof"]), (end.status, end.lines), words)
+                self.assertEqual(STOOD, self.out.read_bytes(), words)
+                self.assertEqual(["OUT"], [path.name for path in self.folder.iterdir()], words)
 
 
 if __name__ == "__main__":

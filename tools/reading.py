@@ -79,7 +79,7 @@ CLAIMS = (
         " over the formula that closes the empty cube, and has written it to the file that is"
         " named for it; or it gives up, which it does only after as many lemmas as the limit"
         " that was named allows.",
-        (("commands", "decide_files", ["tells", "kept", "apart", "left"]),),
+        (("commands", "decide_files", ["tells", "same", "unnamed", "apart", "left"]),),
     ),
     Claim(
         "What a node holds is true, and nodes agree",

@@ -9,6 +9,7 @@ mod ElaborateLemmas
 mod EndingLemmas
 mod EventLemmas
 mod FeedLemmas
+mod FoundProofLemmas
 mod IdentityLemmas
 mod JoinLemmas
 mod KnownLemmas

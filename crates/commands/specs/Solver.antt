@@ -9,7 +9,7 @@ use Rattle.commands.specs.declared.solver.SolverFiles.{SolverFiles}
 use Rattle.dimacs.specs.logic.Cnf.{Sat, assignment_of}
 use Rattle.dimacs.specs.logic.Limits.{Limits}
 use Rattle.dimacs.specs.text.Answer.{witness_items}
-use Rattle.formula_search.specs.Decisions.{Decides}
+use Rattle.formula_search.specs.Decisions.{DecidesTo}
 use Rattle.formula_search.specs.declared.decision.Asked.{Asked}
 use Rattle.leaves.specs.Leaf.{Prints}
 use Rattle.reports.specs.Refusals.{loud_text}
@@ -50,14 +50,18 @@ pub record GivesUp (reason : List ℕ) (s : Solved) : Type 0 where
 abbrev pub IsReason : List ℕ → Type 0
 IsReason reason = ((f : Refusal) × IsOneOf Input Writing f × (reason ≡ loud_text f)) ⊎ (reason ≡ formula_text) ⊎ (reason ≡ no_result_text)
 
--- the solver tells the first fault of the input, read within the limits, or what comes of its formula
-abbrev pub SolvesInput : Limits → Asked → List ℕ → Solved → Type 0
-SolvesInput L asked input s =
-    ((told : Report) × RefusesInput L input told × GivesUp told.stdout.items s) ⊎ OfFormula L input (λ F. Decides F asked s.report × (s.told.items ≡ []))
+-- the solver tells the first fault of the input, read within the limits, or what comes of its formula, of whose proof `has` tells where it is
+abbrev pub SolvesInput : Limits → Asked → (List ℕ → Type 0) → List ℕ → Solved → Type 0
+SolvesInput L asked has input s =
+    ((told : Report) × RefusesInput L input told × GivesUp told.stdout.items s) ⊎ OfFormula L input (λ F. DecidesTo F asked has s.report × (s.told.items ≡ []))
 
 -- the solver tells why it gives no answer, or what comes of the bytes of the input
-abbrev pub Solves : Limits → Asked → Option (List ℕ) → Solved → Type 0
-Solves L asked known s = ((reason : List ℕ) × IsReason reason × GivesUp reason s) ⊎ HoldsOf known (λ input. SolvesInput L asked input s)
+abbrev pub Solves : Limits → Asked → (List ℕ → Type 0) → Option (List ℕ) → Solved → Type 0
+Solves L asked has known s = ((reason : List ℕ) × IsReason reason × GivesUp reason s) ⊎ HoldsOf known (λ input. SolvesInput L asked has input s)
+
+-- a proof is kept nowhere
+abbrev pub nowhere : List ℕ → Type 0
+nowhere proof = Unit {0}
 
 -- ---- MiniSat's result
 -- items, a space before each

@@ -11,6 +11,7 @@ pub mod Lift
 pub mod Transfer
 pub mod Parts
 pub mod Filter
+pub mod FoundProof
 pub mod Receipts
 pub mod Model
 pub mod Texts

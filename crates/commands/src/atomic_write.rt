@@ -15,12 +15,12 @@ const PIECE: usize = 65_536;
 
 /// Unpacks a text, `PIECE` bytes at a time, and appends it to an unfinished file. It errs
 /// if memory runs out or a write fails.
-fn append_packed<D: Drafts>(
+pub(crate) fn append_packed<D: Drafts>(
     disk: &D,
     part: &mut Part<D::Draft>,
     text: &PackedText,
 ) -> Result<(), Refusal>
-    ensures written { OnOk result ((binary : Bool) (path : List ℕ) → IsPart D.made binary path [] part.old → IsPart D.made binary path text.now part.new) }
+    ensures written { OnOk result ((binary : Bool) (path before : List ℕ) → IsPart D.made binary path before part.old → IsPart D.made binary path (before ++ text.now) part.new) }
     ensures refused { IfErr result (IsRefusedAs Refusal.Writing) }
 {
     for i in 0..text.len() / PIECE + 1 {

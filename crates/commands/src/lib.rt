@@ -19,6 +19,7 @@ mod feed_loop;
 mod file_names;
 mod filter;
 mod formula_tree;
+mod found_proof;
 mod identity;
 mod join;
 mod join_run;

@@ -2,7 +2,7 @@
 
 ghost use Rattle.std.specs.Prelude.{◌≡◌, ◌⊎◌, ◌≤◌, ℕ, Bool, false, true, List, Option, codes, drop, length, IfOk, OnErr, OnOk};
 ghost use Rattle.commands.specs.Known.{HoldsOf};
-ghost use Rattle.commands.specs.Solver.{GivesUp, HasResult, Solves, asked_of_minisat, asking, no_result_text, sat_text};
+ghost use Rattle.commands.specs.Solver.{GivesUp, HasResult, Solves, asked_of_minisat, asking, no_result_text, nowhere, sat_text};
 ghost use Rattle.commands.specs.Written.{Keeps};
 ghost use Rattle.commands.specs.inner.Solver.{IsWritten, joined as joined_text};
 ghost use Rattle.dimacs.specs.logic.Limits.{AreNoMore, Limits, large};
@@ -116,7 +116,7 @@ fn satisfied<D: SolverDisk>(
     path: &str,
     mut solved: Solved,
 ) -> Result<Solved, AllocError>
-    ensures tells { (L : Limits) (limit : Option ℕ) (known : Option (List ℕ)) → AreNoMore L large → solved.report.status ≡ 10 → Solves L (asking limit true) known solved
+    ensures tells { (L : Limits) (limit : Option ℕ) (known : Option (List ℕ)) → AreNoMore L large → solved.report.status ≡ 10 → Solves L (asking limit true) nowhere known solved
         → IfOk result (IsWritten (Keeps D.kept disk.old disk.new false path.now) (disk.new ≡ disk.old) L limit known) }
     ensures left { OnErr result (disk.new ≡ disk.old) }
 {
@@ -132,7 +132,7 @@ fn with_result<D: SolverDisk>(
     there: There,
     solved: Solved,
 ) -> Result<Solved, AllocError>
-    ensures tells { (L : Limits) (limit : Option ℕ) (known : Option (List ℕ)) → AreNoMore L large → Solves L (asking limit true) known solved
+    ensures tells { (L : Limits) (limit : Option ℕ) (known : Option (List ℕ)) → AreNoMore L large → Solves L (asking limit true) nowhere known solved
         → IfOk result (IsWritten (Keeps D.kept disk.old disk.new false path.now) (disk.new ≡ disk.old) L limit known) }
     ensures left { OnErr result (disk.new ≡ disk.old) }
 {
@@ -157,7 +157,7 @@ pub fn solve_as_minisat<D: SolverDisk, O: Observer>(
     files: &MinisatFiles<'_>,
     observer: &mut O,
 ) -> Result<Solved, AllocError>
-    ensures tells { IfOk result (Solves limits (asked_of_minisat files.now) (D.holds disk.old files.now.input.now)) }
+    ensures tells { IfOk result (Solves limits (asked_of_minisat files.now) nowhere (D.holds disk.old files.now.input.now)) }
     ensures truth { IfOk result (λ s. HoldsOf (D.holds disk.old files.now.input.now) (λ text. IsTrueReport limits text s.report)) }
     ensures kept { IfOk result (λ s. HasResult (Keeps D.kept disk.old disk.new false files.now.result.now) (disk.new ≡ disk.old) limits (D.holds disk.old files.now.input.now) s.report) }
     ensures apart { IfOk result (λ s. 1 ≤ s.report.status → D.apart disk.old files.now.result.now files.now.input.now) }

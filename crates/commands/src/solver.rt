@@ -1,8 +1,7 @@
 //! A solver as other tools call one: it decides the formula of a file, and answers one `s` line, always.
 
-ghost use Rattle.std.specs.Prelude.{◌≡◌, IfOk, OnErr};
-ghost use Rattle.commands.specs.Decide.{IsKept};
-ghost use Rattle.commands.specs.Join.{IsFree};
+ghost use Rattle.std.specs.Prelude.{◌≡◌, ◌≢◌, None, IfOk, OnErr};
+ghost use Rattle.commands.specs.Join.{IsFree, IsStored};
 ghost use Rattle.commands.specs.Known.{HoldsOf};
 ghost use Rattle.commands.specs.Solver.{GivesUp, Solves, asked_of};
 ghost use Rattle.proof_check.specs.Truth.{IsTrueReport};
@@ -99,16 +98,17 @@ fn is_formula<D: SolverDisk>(disk: &D, proof: Option<Target<'_>>) -> bool {
 }
 
 /// Decides the formula in a file, and answers what is told and what is the answer. If nothing satisfies the formula, the proof is written
-/// first, if its file is named.
+/// as it is found, if its file is named.
 pub(crate) fn decided<D: SolverDisk, O: Observer>(
     disk: &mut D,
     limits: Limits,
     files: &SolverFiles<'_>,
     observer: &mut O,
 ) -> Result<Solved, AllocError>
-    ensures tells { IfOk result (Solves limits (asked_of files.now) (D.holds disk.old files.now.input.now)) }
+    ensures tells { IfOk result (Solves limits (asked_of files.now) (IsStored D.kept disk.old disk.new files.now.proof) (D.holds disk.old files.now.input.now)) }
     ensures truth { IfOk result (λ s. HoldsOf (D.holds disk.old files.now.input.now) (λ text. IsTrueReport limits text s.report)) }
-    ensures kept { IfOk result (λ s. IsKept D.kept disk.old disk.new files.now.proof s.report.proof) }
+    ensures same { IfOk result (λ s. s.report.status ≢ 20 → disk.new ≡ disk.old) }
+    ensures unnamed { files.now.proof ≡ None → disk.new ≡ disk.old }
     ensures apart { IfOk result (λ s. s.report.status ≡ 20 → IsFree (D.apart disk.old) files.now.proof files.now.input.now) }
     ensures left { OnErr result (disk.new ≡ disk.old) }
 {
@@ -139,7 +139,8 @@ pub(crate) fn decided<D: SolverDisk, O: Observer>(
 
 /// Decides the formula in `files.input`, which is read within these limits, as a solver that other tools call: there is always an answer,
 /// `s SATISFIABLE` with status 10, `s UNSATISFIABLE` with status 20, or `s UNKNOWN` with status 0 and the reason. If nothing satisfies the
-/// formula, the proof is written to `files.proof`, if that is named, whole and before the answer is told, and never over a formula.
+/// formula, the proof is put at `files.proof`, if that is named, whole and before the answer is told, and never over a formula. Into a device
+/// or a pipe the lines of a long search go as they are found, whatever the answer will be.
 ///
 /// The error is want of memory; then no file has changed.
 pub fn solve_files<D: SolverDisk, O: Observer>(
@@ -148,9 +149,10 @@ pub fn solve_files<D: SolverDisk, O: Observer>(
     files: &SolverFiles<'_>,
     observer: &mut O,
 ) -> Result<Solved, AllocError>
-    ensures tells { IfOk result (Solves limits (asked_of files.now) (D.holds disk.old files.now.input.now)) }
+    ensures tells { IfOk result (Solves limits (asked_of files.now) (IsStored D.kept disk.old disk.new files.now.proof) (D.holds disk.old files.now.input.now)) }
     ensures truth { IfOk result (λ s. HoldsOf (D.holds disk.old files.now.input.now) (λ text. IsTrueReport limits text s.report)) }
-    ensures kept { IfOk result (λ s. IsKept D.kept disk.old disk.new files.now.proof s.report.proof) }
+    ensures same { IfOk result (λ s. s.report.status ≢ 20 → disk.new ≡ disk.old) }
+    ensures unnamed { files.now.proof ≡ None → disk.new ≡ disk.old }
     ensures apart { IfOk result (λ s. s.report.status ≡ 20 → IsFree (D.apart disk.old) files.now.proof files.now.input.now) }
     ensures left { OnErr result (disk.new ≡ disk.old) }
 {

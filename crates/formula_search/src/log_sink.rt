@@ -1,6 +1,6 @@
 //! Where the lines of a proof go as they are found.
 
-ghost use Rattle.std.specs.Prelude.{◌≡◌, ◌++◌, List, ℕ, [], IfErr, OnOk};
+ghost use Rattle.std.specs.Prelude.{◌≡◌, ◌++◌, List, ℕ, [], length, IfErr, OnOk};
 ghost use Rattle.formula_search.specs.LogSinks.{IsUnwritten};
 
 use packed_text::PackedText;
@@ -17,9 +17,14 @@ pub trait LogSink {
         ensures handed { OnOk result ((before : List ℕ) → has self.old before → has self.new (before ++ text.now)) }
         ensures refused { IfErr result IsUnwritten };
 
-    /// Drops the text that it was handed, and begins anew.
+    /// Drops the text that it was handed, and begins anew. After [`LogSink::settle`] a sink may err, if the text has left it.
     fn empty(&mut self) -> Result<(), Refusal>
         ensures emptied { OnOk result (has self.new []) }
+        ensures refused { IfErr result IsUnwritten };
+
+    /// Tells that the text is that of a search that will go on to its end: it may leave the sink.
+    fn settle(&mut self) -> Result<(), Refusal>
+        ensures stays { OnOk result ((text : List ℕ) → has self.old text → has self.new text) }
         ensures refused { IfErr result IsUnwritten };
 }
 
@@ -64,6 +69,14 @@ impl KeptText {
         }
     }
 
+    /// The length of the text in bytes.
+    #[allow(clippy::len_without_is_empty)]
+    pub fn len(&self) -> usize
+        ensures { result ≡ length self.now.text }
+    {
+        self.text.len()
+    }
+
     /// Hands out the text.
     pub fn into_text(self) -> PackedText
         ensures { result ≡ self.text }
@@ -89,6 +102,11 @@ impl LogSink for KeptText {
         self.text = PackedText::new(self.alloc);
         Ok(())
     }
+
+    /// The text stays in memory.
+    fn settle(&mut self) -> Result<(), Refusal> {
+        Ok(())
+    }
 }
 
 /// A sink that keeps nothing, where no proof is asked for.
@@ -105,6 +123,11 @@ impl LogSink for Nowhere {
 
     /// There is nothing to drop.
     fn empty(&mut self) -> Result<(), Refusal> {
+        Ok(())
+    }
+
+    /// There is nothing that could leave the sink.
+    fn settle(&mut self) -> Result<(), Refusal> {
         Ok(())
     }
 }

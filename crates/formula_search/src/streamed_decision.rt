@@ -148,6 +148,7 @@ fn decide_less_to<S: LogSink, O: Observer>(
     ensures decides { IfOk result (DecidesTo formula.now asked (S.has sink.new)) }
     ensures refused { IfErr result IsUnwritten }
 {
+    sink.settle()?;
     let found = search_less_to(alloc, formula, sink, observer)?;
     match found {
         Some(ending) => {
@@ -191,8 +192,8 @@ fn decide_without_limit_to<S: LogSink, O: Observer>(
 ///
 /// The report has status 10 and an assignment that satisfies the formula; or 20, and then the sink has a log over the formula that is
 /// accepted as a proof of it; or 0 if the search has learnt as many lemmas as the limit allows. The proof is not in the report. An error is
-/// want of memory, the end of a search at 2^47 lemmas if no limit is named, or that the sink cannot take the proof. The observer is shown how
-/// far each search has come.
+/// want of memory, the end of a search at 2^47 lemmas if no limit is named, or that the sink cannot take the proof. The sink is settled
+/// before the search that is not the short one. The observer is shown how far each search has come.
 pub fn decide_to<S: LogSink, O: Observer>(
     alloc: Global,
     formula: &Formula,
@@ -210,6 +211,7 @@ pub fn decide_to<S: LogSink, O: Observer>(
             Ok(report)
         }
         _ => {
+            sink.settle()?;
             let report = decide_whole_to(alloc, formula, asked, sink, observer)?;
             Ok(report)
         }

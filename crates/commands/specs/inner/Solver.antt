@@ -1,7 +1,7 @@
 -- The bytes of an answer's lines that MiniSat's result has, and what is told beside a result.
 use Rattle.std.specs.Prelude.{◌==◌, ℕ, Bool, false, not, ◌&&◌, List, Option}
 use Rattle.std.specs.List.{filter}
-use Rattle.commands.specs.Solver.{HasResult, Solves, asking}
+use Rattle.commands.specs.Solver.{HasResult, Solves, asking, nowhere}
 use Rattle.commands.specs.declared.solver.Solved.{Solved}
 use Rattle.dimacs.specs.logic.Limits.{Limits}
 
@@ -15,5 +15,5 @@ joined text = filter is_of_item text
 
 -- what is told beside MiniSat's result: the `s` line, and no assignment
 pub record IsWritten (keeps : List ℕ → Type 0) (left : Type 0) (L : Limits) (limit : Option ℕ) (known : Option (List ℕ)) (s : Solved) : Type 0 where
-  pub solves : Solves L (asking limit false) known s
+  pub solves : Solves L (asking limit false) nowhere known s
   pub result : HasResult keeps left L known s.report

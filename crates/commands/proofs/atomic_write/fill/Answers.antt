@@ -10,4 +10,4 @@ returns-in-Ok-clause-kept g c =
     IfOk-weaker c.keep.result
     (λ b. IsTrue b → (binary : Bool) (path text : List ℕ) → IsPart g.D.Drafts.made binary path text c.append_packed.new.part → Stands binary path text)
     (λ b. IsTrue b → (binary : Bool) (path : List ℕ) → IsPart g.D.Drafts.made binary path [] c.args.part → Stands binary path c.args.text.now)
-    (λ b keeps is binary path start. keeps is binary path c.args.text.now (c.in-Ok.ensures.written binary path start)) c.keep.ensures.kept
+    (λ b keeps is binary path start. keeps is binary path c.args.text.now (c.in-Ok.ensures.written binary path [] start)) c.keep.ensures.kept

@@ -11,8 +11,8 @@ deciding files = record { input = files.input; proof = files.proof; asked = aske
 
 pub returns-then-report-eq1-clause-tells : goal.returns-then-report-eq1-clause-tells
 returns-then-report-eq1-clause-tells g c =
-    refused_so c.args.limits (deciding c.args.files.now) _ _ c.in-Ok.report c.unknown.result refl c.if-report-eq1.true refl c.in-Ok.ensures.tells c.unknown.ensures
+    refused_so c.args.limits (deciding c.args.files.now) _ _ _ c.in-Ok.report c.unknown.result refl c.if-report-eq1.true refl c.in-Ok.ensures.tells c.unknown.ensures
 
 pub returns-else-report-eq1-clause-tells : goal.returns-else-report-eq1-clause-tells
 returns-else-report-eq1-clause-tells g c =
-    answered_so c.args.limits (deciding c.args.files.now) _ c.in-Ok.report _ c.if-report-eq1.false refl c.new.ensures.items c.in-Ok.ensures.tells
+    answered_so c.args.limits (deciding c.args.files.now) _ _ c.in-Ok.report _ c.if-report-eq1.false refl c.new.ensures.items c.in-Ok.ensures.tells
