@@ -1,5 +1,5 @@
 -- The log of a session: its lines say which clauses are live after each call.
-use Rattle.std.specs.Prelude.{◌≡◌, ℕ, ◌+◌, ◌≤◌, List, [], ◌∷◌, ◌++◌, ◌⊎◌, length, map, nat_eq, All, Contains, IsSome}
+use Rattle.std.specs.Prelude.{◌≡◌, ℕ, ◌+◌, ◌<◌, ◌≤◌, List, [], ◌∷◌, ◌++◌, ◌⊎◌, length, map, nat_eq, All, Contains, IsSome}
 use Rattle.std.specs.FinMap.{get}
 use Rattle.std.specs.List.{IsDistinct}
 use Rattle.dimacs.specs.logic.ClauseMap.{ClauseMap, live_in}
@@ -42,6 +42,10 @@ module _ {P : Type 0} where
     pub linked : AreLinked (live_in M) (live_in_session s)
     pub before : (n : ℕ) → Contains given n → n ≤ last_of s
     pub apart : (n : ℕ) → Contains given n → ¬ (Contains s.search.lemmas.items n)
+
+-- each of the numbers `more` is one of `given`, or is above `last` and at most `top`
+abbrev pub AreOrLeftOut : ℕ → ℕ → List ℕ → List ℕ → Type 0
+AreOrLeftOut last top given more = (n : ℕ) → Contains more n → Contains given n ⊎ ((last < n) × (n ≤ top))
 
 -- the log grew, from session `old` to `new`, by the lines of right steps over the clauses of M and the session's variables; the live
 -- clauses of `new` are those after the steps

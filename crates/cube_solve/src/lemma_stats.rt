@@ -140,6 +140,14 @@ impl LemmaStats {
         Ok(())
     }
 
+    /// Appends the statistics of so many numbers that no clause has.
+    pub(crate) fn skip(&mut self, count: u64) -> Result<(), AllocError> {
+        for _ in 0..count {
+            self.add()?;
+        }
+        Ok(())
+    }
+
     /// Appends the statistics of the next lemma, which has one literal. It is never deleted, and does not count among those that are live.
     pub(crate) fn learn_unit(&mut self) -> Result<(), AllocError> {
         self.few = self.few.saturating_add(1);

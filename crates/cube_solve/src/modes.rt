@@ -49,8 +49,10 @@ pub(crate) enum AfterConflict {
 pub(crate) struct Modes {
     /// Whether the present phase is stable; else it is focused.
     is_stable: bool,
-    /// Whether the formula is dense.
-    is_dense: bool,
+    /// The number of clauses that were given so far.
+    clauses: u64,
+    /// The number of variables.
+    vars: u64,
     /// Whether the first phase has found the formula flat.
     is_flat: bool,
     /// The number of conflicts so far.
@@ -86,7 +88,8 @@ impl Modes {
     pub(crate) fn new(clauses: u64, vars: u32) -> Modes {
         Modes {
             is_stable: false,
-            is_dense: clauses >= (vars as u64).saturating_mul(DENSE),
+            clauses,
+            vars: vars as u64,
             is_flat: false,
             conflicts: 0,
             levels: 0,
@@ -102,6 +105,11 @@ impl Modes {
             rephasings: 0,
             next_rephasing: BETWEEN_REPHASINGS,
         }
+    }
+
+    /// Counts a clause that is given after the first ones.
+    pub(crate) fn give(&mut self) {
+        self.clauses = self.clauses.saturating_add(1);
     }
 
     /// Counts a conflict at level `depth`, whose lemma has the LBD `levels`. In a focused phase the
@@ -167,7 +175,7 @@ impl Modes {
 
     /// Whether the conflicts of the first phase were shallow, and its lemmas wide, in a dense formula.
     fn was_flat(&self) -> bool {
-        self.is_dense
+        self.clauses >= self.vars.saturating_mul(DENSE)
             && self.depths <= self.conflicts.saturating_mul(SHALLOW)
             && self.levels.saturating_mul(WIDE_PART) >= self.depths
     }

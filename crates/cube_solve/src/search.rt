@@ -322,6 +322,7 @@ impl<'a, P: Propagator> Search<'a, P> {
         self.state.add_given(id, lits)?;
         self.units.note(lits, id);
         self.garbage.give(lits); // more given literals: compaction waits for more garbage
+        self.phases.give();
         self.uses.add()?; // the statistics are by number, so each clause has a place
         Ok(())
     }

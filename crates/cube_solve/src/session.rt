@@ -6,7 +6,7 @@ ghost use Rattle.dimacs.specs.logic.ClauseMap.{ClauseMap, map_of};
 ghost use Rattle.dimacs.specs.logic.Literal.{Clause, IsWithin};
 ghost use Rattle.lrat_text.specs.Grammar.{IsClauseNumber};
 ghost use Rattle.cube_solve.specs.Session.{IsReady, AreGiven, FollowsFrom, IsLemma, vars_of, last_of, log_of};
-ghost use Rattle.cube_solve.specs.SessionLog.{IsKnown};
+ghost use Rattle.cube_solve.specs.SessionLog.{AreOrLeftOut, IsKnown};
 
 use crate::decision_order::Waiting;
 use crate::marks::Marks;
@@ -130,6 +130,25 @@ impl<'a, P: Propagator> Session<'a, P> {
         self.marks.mark(vars, clause, &mut kept)?;
         self.search.add_lent(id, &kept)?;
         self.top = id;
+        Ok(())
+    }
+
+    /// Leaves out the numbers up to this one: the next clause has the number behind it. There is an error if memory is refused; then nothing
+    /// is known of the session.
+    pub fn skip_to(&mut self, number: u64) -> Result<(), AllocError>
+        requires ready { IsReady P.is_ready P.attached self.old }
+        requires above { last_of self.old ≤ number }
+        requires most { number ≤ 2 ^ 47 }
+        ensures ready { OnOk result (IsReady P.is_ready P.attached self.new) }
+        ensures given { OnOk result ((F : List Clause) → AreGiven F self.old → AreGiven F self.new) }
+        ensures vars { OnOk result (vars_of self.new ≡ vars_of self.old) }
+        ensures last { OnOk result (last_of self.new ≡ number) }
+        ensures log { log_of self.new ≡ log_of self.old }
+        // none of the numbers that are left out is ever one of a lemma, so any of them may be counted among those of given clauses
+        ensures known { OnOk result ((given more : List ℕ) (M : ClauseMap) → IsKnown given M self.old → AreOrLeftOut (last_of self.old) number given more → IsKnown more M self.new) }
+    {
+        self.search.uses.skip(number - self.top)?;
+        self.top = number;
         Ok(())
     }
 

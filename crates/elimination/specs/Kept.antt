@@ -18,6 +18,10 @@ IsSubset C D = (l : Literal) → Contains C l → Contains D l
 abbrev pub IsEliminated : List Bool → ℕ → Type 0
 IsEliminated gone v = slice_index_or gone v false ≡ true
 
+-- no variable has both truth values, that of `frozen` and that of `gone`
+abbrev pub AreApart : List Bool → List Bool → Type 0
+AreApart frozen gone = (v : ℕ) → slice_index_or frozen v false ≡ true → ¬ (IsEliminated gone v)
+
 -- the clause has a literal of an eliminated variable
 abbrev pub HasEliminated : List Bool → Clause → Type 0
 HasEliminated gone C = (l : Literal) × Contains C l × IsEliminated gone (var_of l)

@@ -45,6 +45,8 @@ pub(crate) struct Advisor {
     pub(crate) order: Vec<u64>,
     /// Whether a clause of a variable came or went since the variable was tried.
     pub(crate) touched: Vec<bool>,
+    /// Whether a variable is to stay, by its number.
+    pub(crate) frozen: Vec<bool>,
     /// How many more clauses an elimination may leave.
     pub(crate) bound: usize,
     /// Whether a variable was eliminated in this round.
@@ -58,12 +60,14 @@ pub(crate) struct Advisor {
 }
 
 impl Advisor {
-    /// An advisor over the variables from 1 to `vars` of a formula of so many clauses, which takes so many steps at most.
+    /// An advisor over the variables from 1 to `vars` of a formula of so many clauses, which takes so many steps at most, and lets the
+    /// variables stay that are `frozen`.
     pub(crate) fn new(
         alloc: Global,
         vars: u32,
         clauses: usize,
         budget: u64,
+        frozen: &[bool],
     ) -> Result<Advisor, AllocError> {
         let rows = vars as usize + 1;
         Ok(Advisor {
@@ -76,6 +80,7 @@ impl Advisor {
             first: clauses,
             order: Vec::new(alloc),
             touched: vec![in alloc; true; rows]?,
+            frozen: Vec::from_slice(alloc, frozen)?,
             bound: 0,
             has_eliminated: true,
             positive: Vec::new(alloc),
@@ -159,6 +164,14 @@ impl Advisor {
     pub(crate) fn is_marked(&self, literal: Lit) -> bool {
         match self.marks.get(literal.index()) {
             Some(mark) => *mark,
+            None => false,
+        }
+    }
+
+    /// Whether a variable is to stay.
+    pub(crate) fn is_frozen(&self, number: u32) -> bool {
+        match self.frozen.get(number as usize) {
+            Some(frozen) => *frozen,
             None => false,
         }
     }

@@ -31,7 +31,7 @@ impl Advisor {
         Ok(true)
     }
 
-    /// Puts a variable on the list of this round, if it is not eliminated and in few clauses, and has its lists swept.
+    /// Puts a variable on the list of this round, if it is not eliminated, not frozen and in few clauses, and has its lists swept.
     fn enlist(&mut self, reducer: &Reducer, number: u32) -> Result<(), AllocError> {
         if number == 0 || number > reducer.vars() {
             return Ok(());
@@ -43,7 +43,8 @@ impl Advisor {
         self.spend(reducer.count_with(&[Lit::positive(var), Lit::negative(var)]));
         let positive = count_active(reducer, Lit::positive(var));
         let negative = count_active(reducer, Lit::negative(var));
-        if positive <= MOST && negative <= MOST && positive + negative > 0 {
+        let few = positive <= MOST && negative <= MOST && positive + negative > 0;
+        if few && !self.is_frozen(number) {
             let pairs = positive as u64 * negative as u64;
             self.order.push((pairs << 32) | u64::from(number))?;
         }
@@ -58,7 +59,7 @@ impl Advisor {
         reducer: &Reducer,
         number: u32,
     ) -> Result<(), AllocError> {
-        if number == 0 || number > reducer.vars() {
+        if number == 0 || number > reducer.vars() || self.is_frozen(number) {
             return Ok(());
         }
         let var = Var::new(number);

@@ -1,8 +1,9 @@
 //! What is kept of a formula when variables are eliminated.
 
-ghost use Rattle.std.specs.Prelude.{◌≡◌, [], ◌∷◌, ◌++◌, length, IfOk, IfSome, IsTrue};
+ghost use Rattle.std.specs.Prelude.{◌≡◌, [], ◌∷◌, ◌++◌, length, Some, IfOk, IfSome, IsTrue};
+ghost use Rattle.std.specs.Bool.{OnTrue};
 ghost use Rattle.dimacs.specs.logic.Cnf.{Cnf};
-ghost use Rattle.elimination.specs.Kept.{IsLeftOf};
+ghost use Rattle.elimination.specs.Kept.{AreApart, IsLeftOf};
 ghost use Rattle.elimination.specs.inner.Reducing.{ArePicked, IsReductionOf};
 
 use crate::advisor::{Advice, Advisor};
@@ -51,10 +52,16 @@ const LEAST_EFFORT: u64 = 20_000_000;
 /// The most moves of an elimination, more than any budget buys.
 const MOVES: u64 = 1 << 40;
 
-/// Eliminates variables of a formula. `None` if it is too large, has an empty clause, or one that repeats a literal: what such a clause is a
-/// subset of is not soon found out.
-pub fn eliminate(alloc: Global, formula: &Formula) -> Result<Option<Kept>, AllocError>
-    ensures { IfOk result (λ found. IfSome found (IsLeftOf formula.now)) }
+/// Eliminates variables of a formula, but none that is `frozen`, a truth value for each variable by its number; those past its end are not.
+/// `None` if the formula is too large, has an empty clause, or one that repeats a literal: what such a clause is a subset of is not soon
+/// found out.
+pub fn eliminate(
+    alloc: Global,
+    formula: &Formula,
+    frozen: &[bool],
+) -> Result<Option<Kept>, AllocError>
+    ensures left { IfOk result (λ found. IfSome found (IsLeftOf formula.now)) }
+    ensures frozen { IfOk result (λ found. IfSome found (λ k. AreApart frozen.now k.eliminated.items)) }
 {
     let literals = count_literals(formula.as_base());
     if literals > MOST_LITERALS || repeats_literal(alloc, formula)? {
@@ -64,7 +71,7 @@ pub fn eliminate(alloc: Global, formula: &Formula) -> Result<Option<Kept>, Alloc
         return Ok(None);
     };
     let budget = LEAST_EFFORT + EFFORT * literals;
-    let mut advisor = Advisor::new(alloc, formula.vars(), formula.len(), budget)?;
+    let mut advisor = Advisor::new(alloc, formula.vars(), formula.len(), budget, frozen)?;
     for _ in 0..MOVES {
         match advisor.advise(&reducer)? {
             Advice::Do(next) => reducer = reducer.carry_out(next)?,
@@ -72,7 +79,34 @@ pub fn eliminate(alloc: Global, formula: &Formula) -> Result<Option<Kept>, Alloc
             Advice::End => break,
         }
     }
-    kept_of(alloc, reducer, advisor.into_witness())
+    let found = kept_of(alloc, reducer, advisor.into_witness())?;
+    Ok(unless_frozen(found, frozen))
+}
+
+/// Whether no variable has both truth values, by their number.
+fn are_apart(frozen: &[bool], eliminated: &[bool]) -> bool
+    ensures { OnTrue result (AreApart frozen.now eliminated.now) }
+{
+    for i in 0..frozen.len() {
+        if frozen[i] && i < eliminated.len() && eliminated[i] {
+            return false;
+        }
+    }
+    true
+}
+
+/// What was found, except if a frozen variable is eliminated: the choice of variables is advice, so this is tested.
+fn unless_frozen(found: Option<Kept>, frozen: &[bool]) -> Option<Kept>
+    ensures same { IfSome result (λ k. found ≡ Some k) }
+    ensures frozen { IfSome result (λ k. AreApart frozen.now k.eliminated.items) }
+{
+    let Some(kept) = found else {
+        return None;
+    };
+    if !are_apart(frozen, &kept.eliminated) {
+        return None;
+    }
+    Some(kept)
 }
 
 /// Whether a clause of a formula repeats a literal.

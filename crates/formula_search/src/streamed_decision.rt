@@ -111,7 +111,7 @@ fn kept_of(alloc: Global, formula: &Formula) -> Result<Option<Kept>, Refusal>
     ensures kept { IfOk result (λ found. IfSome found (IsLeftOf formula.now)) }
     ensures refused { IfErr result IsUnwritten }
 {
-    match eliminate(alloc, formula) {
+    match eliminate(alloc, formula, &[]) {
         Ok(kept) => Ok(kept),
         Err(_) => Err(Refusal::NoMemory),
     }
