@@ -21,6 +21,10 @@ try:
 	cd "$(CURDIR)/crates/satcluster" && rt try --cases $$t/runs | tee $$t/told && \
 	grep -q '^s VERIFIED$$' $$t/told
 
+# Writes docs/dev/READING.md: the main claims with every definition below them.
+docs:
+	tools/reading.py
+
 # Runs all tests, the proofs from nothing among them: an hour or two.
 check:
 	.ci/run
@@ -35,4 +39,4 @@ uninstall:
 dist:
 	tools/dist.py $(PROGRAM)
 
-.PHONY: all try check install uninstall dist
+.PHONY: all try docs check install uninstall dist

@@ -69,6 +69,7 @@ def layout(program: Path) -> Dict[str, Path]:
                             (ROOT / "share", ("*/**/*",), "share")):
         for path in (path for name in names for path in base.glob(name) if path.is_file()):
             places["%s/%s" % (to, path.relative_to(base))] = path
+    places.pop(DOC + "/docs/dev/READING.md", None)  # made by `make docs`, and not kept
     return places
 
 

@@ -33,7 +33,8 @@ PEOPLE = ("CHECKING", "SOLVING", "CLUSTER", "SESSIONS", "CLIENTS", "COMMANDS", "
 UNCOUNTED = ("FAULTS.md", "SPEED.md")
 PEOPLE_WORDS = 16700
 RUN = 12  # so many words in a row stand on one page alone
-MADE = ("READING.md", "FAULTS.md")  # made by scripts, of the sources
+MADE = ("FAULTS.md",)  # made by a script, of the sources
+UNKEPT = ("READING.md",)  # made where somebody reads it, and not kept
 LANGUAGES = ("sh", "console", "python", "c", "text", "make", "yaml")
 
 LINK = re.compile(r"\[(?:[^\[\]]|\[[^\]]*\])*\]\(([^)\s]+)\)")
@@ -45,7 +46,8 @@ CRATE_PATH = re.compile(r"[a-z_]+/(?:src|specs|proofs|must-fail)/[A-Za-z_/]+"
 def pages() -> List[Path]:
     tops = [ROOT / name for name in ("README.md", "CHANGELOG.md", "CONTRIBUTING.md")]
     docs = ROOT / "docs"
-    return tops + sorted(docs.glob("*.md")) + sorted((docs / "dev").glob("*.md"))
+    dev = [page for page in (docs / "dev").glob("*.md") if page.name not in UNKEPT]
+    return tops + sorted(docs.glob("*.md")) + sorted(dev)
 
 
 def for_people() -> List[Path]:

@@ -3,9 +3,10 @@
 into docs/TRUST.md the definitions below `s VERIFIED`.
 
     tools/reading.py           writes them
-    tools/reading.py --check   fails if one is stale, or if TRUST has another count of the glue
+    tools/reading.py --check   fails if TRUST is stale, or has another count of the glue
 
-Both fail if a definition stands on the wrong side: `specs` holds what contracts of public calls
+READING is not kept in the repository: it is long, and whoever reads it makes it (`make docs`).
+Both runs fail if a definition stands on the wrong side: `specs` holds what contracts of public calls
 name, directly or not, and `specs/inner` what only private contracts, invariants and proofs name.
 """
 import re
@@ -260,19 +261,16 @@ def trust() -> str:
 
 
 def main() -> None:
-    pages = {PAGE: page(), TRUST: trust()}
+    made, trusted = page(), trust()
     wrong = list(definitions.misplaced())
     if wrong:
         raise SystemExit("believed, and in specs/inner, or not, and in specs:\n" + "\n".join(wrong))
-    stale = [path for path, text in pages.items()
-             if not path.exists() or path.read_text(encoding="utf-8") != text]
     if sys.argv[1:] == ["--check"]:
-        if stale:
-            names = ", ".join(str(path.relative_to(ROOT)) for path in stale)
-            raise SystemExit("stale: %s; run tools/reading.py" % names)
+        if TRUST.read_text(encoding="utf-8") != trusted:
+            raise SystemExit("stale: docs/TRUST.md; run tools/reading.py")
         return
-    for path in stale:
-        path.write_text(pages[path], encoding="utf-8")
+    TRUST.write_text(trusted, encoding="utf-8")
+    PAGE.write_text(made, encoding="utf-8")
 
 
 if __name__ == "__main__":
