@@ -1,4 +1,4 @@
-use Rattle.std.proofs.Common.{ℕ, List, ◌*◌, ◌++◌, take, sym, ◌∙◌, ap, append-nil, append_assoc, subst}
+use Rattle.std.proofs.Common.{ℕ, List, ◌*◌, ◌++◌, take, sym, ◌∙◌, ap, append-nil, append_assoc, subst, arith}
 use Rattle.commands.specs.inner.Parts.{IsPart}
 use Rattle.commands.proofs.WritingLemmas.{front_is_whole, front_more}
 use Rattle.commands.proofs.atomic_write.append_packed.Goals as goal
@@ -18,4 +18,4 @@ loop-i-preserved g c = λ binary path before h.
 pub returns-clause-written : goal.returns-clause-written
 returns-clause-written g c = λ binary path before h.
     let P : List ℕ → Type 0 = λ t. IsPart g.D.Drafts.made binary path (before ++ t) c.loop-i.part in
-    subst P (front_is_whole c.args.text.now) (c.loop-i.invariant binary path before h)
+    subst P (front_is_whole c.loop-i.i c.args.text.now (omega arith)) (c.loop-i.invariant binary path before h)
