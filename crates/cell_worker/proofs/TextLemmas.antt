@@ -8,9 +8,9 @@ use Rattle.dimacs.specs.logic.ClauseMap.{ClauseMap, live_in}
 use Rattle.dimacs.specs.logic.Cnf.{Cnf}
 use Rattle.dimacs.specs.logic.Literal.{Clause}
 use Rattle.dimacs.specs.logic.Rat.{Group}
-use Rattle.lrat_text.specs.Grammar.{IsStepWithin, SpellsStepWithin}
+use Rattle.lrat_text.specs.Grammar.{IsStepWithin, LineSpellsWithin, SpellsStepWithin}
 use Rattle.lrat_text.specs.Lines.{IsOpen}
-use Rattle.lrat_text.specs.Log.{after_step, log_top, top_after}
+use Rattle.lrat_text.specs.Log.{AreLogSteps, IsLogStep, after_step, log_top, top_after}
 use Rattle.lrat_text.specs.Runs.{after_steps, text_of, top_of}
 use Rattle.lrat_text.specs.WrittenLine.{line_text}
 use Rattle.lrat_text.specs.declared.step.Step.{Step}
@@ -132,3 +132,31 @@ text_lines F vars le few dict given all (x ∷ xs) steps bytes s e right h =
     let rest = text_lines F vars le few dict given all xs (steps ++ own x ∷ []) (bytes ++ (line ++ 10 ∷ [])) t is right.2 one in
     subst (λ (b : List ℕ). IsSharedText F dict (steps ++ map own (x ∷ xs)) b) (append_assoc bytes (line ++ 10 ∷ []) (text_of t.last xs))
     (subst (λ (l : List SharedStep). IsSharedText F dict l ((bytes ++ (line ++ 10 ∷ [])) ++ text_of t.last xs)) (append_assoc steps (own x ∷ []) (map own xs)) rest)
+
+-- ---- lines of an LRAT log
+-- what is right of a log is right here
+right_log : (m : ℕ) (s : SharedLogState) (x : Step) → IsLogStep m s.live s.last x → IsSharedStep m s (own x)
+right_log m s (Add id lits hints groups) r = (r.0, r.2)
+right_log m s (Delete ids) r = r
+
+spelled_log : (m most : ℕ) (dict : Names) (M : ClauseMap) (top : ℕ) (line : List ℕ) (x : Step) → IsLogStep m M top x → SpellsStepWithin most line x → SpellsSharedStep most dict line (own x)
+spelled_log m most dict M top line (Add id lits hints groups) r h = subst (λ (gs : List Group). SpellsStepWithin most line (Add id lits hints gs)) r.1 h
+spelled_log m most dict M top line (Delete ids) r h = h
+
+-- the text of a log is that of a log with imports
+pub text_of_log : (F : Cnf) (dict : Names) (xs : List Step) (steps : List SharedStep) (bytes text : List ℕ) (s : SharedLogState) → log_state F steps ≡ s
+    → AreLogSteps (length F.clauses) s.live s.last xs → LineSpellsWithin (log_top F) text xs → IsSharedText F dict steps bytes
+    → IsSharedText F dict (steps ++ map own xs) (bytes ++ text)
+text_of_log F dict [] steps bytes text s e right spelled h =
+    subst (λ (b : List ℕ). IsSharedText F dict (steps ++ []) b) (sym (ap (λ (t : List ℕ). bytes ++ t) spelled ∙ append-nil bytes))
+    (subst (λ (l : List SharedStep). IsSharedText F dict l bytes) (sym (append-nil steps)) h)
+text_of_log F dict (x ∷ xs) steps bytes text s e right (line, rest, is, bare, one, more) h =
+    let spells = spelled_log (length F.clauses) (log_top F) dict s.live s.last line x right.0 one in
+    let fits = subst (λ (t : SharedLogState). IsSharedStep (length F.clauses) t (own x)) (sym e) (right_log (length F.clauses) s x right.0) in
+    let first = text_more F dict steps bytes line (own x) h (open_of line bare) spells fits in
+    let t : SharedLogState = record { live = after_step s.live x; last = top_after s.last x; clock = s.clock } in
+    let after : log_state F (steps ++ own x ∷ []) ≡ t = state_push F steps (own x) ∙ ap (λ (y : SharedLogState). after_line y (own x)) e ∙ own_after s x in
+    let all = text_of_log F dict xs (steps ++ own x ∷ []) (bytes ++ (line ++ 10 ∷ [])) rest t after right.1 more first in
+    subst (λ (b : List ℕ). IsSharedText F dict (steps ++ map own (x ∷ xs)) b)
+    (append_assoc bytes (line ++ 10 ∷ []) rest ∙ ap (λ (y : List ℕ). bytes ++ y) (append_assoc line (10 ∷ []) rest ∙ sym is))
+    (subst (λ (l : List SharedStep). IsSharedText F dict l ((bytes ++ (line ++ 10 ∷ [])) ++ rest)) (append_assoc steps (own x ∷ []) (map own xs)) all)

@@ -1,6 +1,7 @@
 -- What a worker of a cell has written: the text of a log with imports.
-use Rattle.std.specs.Prelude.{◌≡◌, ℕ, ◌≤◌, List, [], ◌∷◌, ◌++◌, length, fold, All, Contains}
+use Rattle.std.specs.Prelude.{◌≡◌, ℕ, ◌≤◌, Bool, List, [], ◌∷◌, ◌++◌, length, fold, All, Contains}
 use Rattle.dimacs.specs.logic.Cnf.{Cnf}
+use Rattle.dimacs.specs.logic.ClauseMap.{ClauseMap, live_in}
 use Rattle.dimacs.specs.logic.Literal.{Literal, Clause, negation}
 use Rattle.clause_arena.specs.Clauses.{Clauses}
 use Rattle.lrat_text.specs.Log.{Cube, log_top}
@@ -44,16 +45,34 @@ abbrev pub IsRightTurn : Cnf → Cube → List SharedStep → Turn → Type 0
 IsRightTurn F query lines (turn.Satisfied values) = IsSolution F.vars F.clauses query values
 IsRightTurn F query lines (turn.Closed number) = EndsClosing query number lines
 IsRightTurn F query lines turn.Limit = Unit {0}
+IsRightTurn F query lines turn.Restored = Unit {0}
 
 -- P holds if the turn ended at its limit
 abbrev pub IfLimit : Turn → Type 0 → Type 0
 IfLimit (turn.Satisfied values) P = Unit {0}
 IfLimit (turn.Closed number) P = Unit {0}
 IfLimit turn.Limit P = P
+IfLimit turn.Restored P = Unit {0}
+
+-- how many lemmas a turn writes at most besides those that its search learns: the one that closes the query, or clauses that come back
+abbrev pub lemmas_besides : Cnf → Turn → ℕ
+lemmas_besides F (turn.Satisfied values) = 0
+lemmas_besides F (turn.Closed number) = 1
+lemmas_besides F turn.Limit = 0
+lemmas_besides F turn.Restored = length F.clauses
+
+-- ---- workers
+-- the formula of a worker
+abbrev pub formula_in : {P : Type 0} → CellWorker P → Cnf
+formula_in w = w.formula.now
 
 -- how many variables the formula has
 abbrev pub vars_in : {P : Type 0} → CellWorker P → ℕ
 vars_in w = vars_of w.search
+
+-- whether a variable is eliminated, for each of them and one for 0; no list says so if none is
+abbrev pub gone_in : {P : Type 0} → CellWorker P → List Bool
+gone_in w = w.eliminated.items
 
 -- the last number that the log gave
 abbrev pub last_in : {P : Type 0} → CellWorker P → ℕ
@@ -68,13 +87,19 @@ abbrev pub names_in : {P : Type 0} → CellWorker P → ℕ
 names_in w = w.names
 
 -- the invariant of a worker between two calls
-abbrev pub IsWorkerReady : {P : Type 0} → (P → Clauses → TrailValue → Type 0) → (P → List ℕ) → CellWorker P → Type 0
-IsWorkerReady is_ready attached w = IsReady is_ready attached w.search
+pub record IsWorkerReady {P : Type 0} (is_ready : P → Clauses → TrailValue → Type 0) (attached : P → List ℕ) (w : CellWorker P) : Type 0 where
+  pub session : IsReady is_ready attached w.search
+  pub whole : vars_in w ≡ (formula_in w).vars
+
+-- each clause of the map M is one of N under the same number
+abbrev pub IsPartOf : ClauseMap → ClauseMap → Type 0
+IsPartOf M N = (n : ℕ) (C : Clause) → live_in M n C → live_in N n C
 
 -- formula, names, steps, bytes that are already handed out, the worker: with the bytes not handed out yet these are the text of a log with
--- imports, and the worker is where that log ends
+-- imports, and the worker is where that log ends; the search knows some of the log's live clauses, and deletes none of the formula
 pub record HasWritten {P : Type 0} (F : Cnf) (names : Names) (steps : List SharedStep) (text : List ℕ) (w : CellWorker P) : Type 0 where
   pub is_text : IsSharedText F names steps (text ++ w.log.items)
+  pub over : formula_in w ≡ F
   pub vars : vars_in w ≡ F.vars
   pub last : (log_state F steps).last ≡ last_in w
   pub clock : (log_state F steps).clock ≡ clock_in w
@@ -82,7 +107,15 @@ pub record HasWritten {P : Type 0} (F : Cnf) (names : Names) (steps : List Share
   pub told : log_of w.search ≡ []
   pub given : List ℕ
   pub first : (n : ℕ) → n ≤ length F.clauses → Contains given n
-  pub known : IsKnown given (log_state F steps).live w.search
+  pub knows : ClauseMap
+  pub part : IsPartOf knows (log_state F steps).live
+  pub known : IsKnown given knows w.search
+
+-- a worker that was just made has written lemmas alone, and handed nothing out
+pub record HasBegun {P : Type 0} (F : Cnf) (w : CellWorker P) : Type 0 where
+  pub lines : List SharedStep
+  pub own : All IsOwn lines
+  pub written : HasWritten F [] lines [] w
 
 -- a turn wrote lemmas and deletions behind these steps, and its end is right
 pub record HasTurned {P : Type 0} (F : Cnf) (names : Names) (steps : List SharedStep) (text : List ℕ) (query : Cube) (end_ : Turn) (w : CellWorker P) : Type 0 where

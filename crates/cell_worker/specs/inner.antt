@@ -1,1 +1,3 @@
+pub mod KeptSession
+pub mod OwnLines
 pub mod SharedLines

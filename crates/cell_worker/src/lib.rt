@@ -6,7 +6,9 @@
 //! what others' bytes say are not its business.
 #![tactic(auto)]
 
+mod kept_session;
 mod offers;
+mod restoring;
 mod shared_text;
 mod turn;
 mod worker;

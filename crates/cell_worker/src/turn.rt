@@ -11,4 +11,7 @@ pub enum Turn {
     Closed(u64),
     /// As many lemmas were learnt as the limit allows.
     Limit,
+    /// An assignment of the clauses that were kept cannot be extended to all variables as elimination expects, so clauses of the formula came
+    /// back: the search goes on.
+    Restored,
 }

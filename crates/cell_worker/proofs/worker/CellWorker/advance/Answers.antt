@@ -15,4 +15,4 @@ returns-clause-stands g c = λ F names steps text h.
     let small : time ≤ 2 ^ 40 = (let l = c.if-time-ge-LAST_TIME.false in omega arith) in
     let number : IsClauseNumber time = (omega arith, omega arith) in
     let later : (log_state F steps).clock < time = (let e = h.clock in let m = c.max-time.ensures in omega arith) in
-    written_line F names steps text s u (clock_text time) (Clock time) c.in_ok-put_clock.ensures (clock_open time number) (clock_spelled time small) later refl refl h.last refl refl (λ given k. k) h
+    written_line F names steps text s u (clock_text time) (Clock time) c.in_ok-put_clock.ensures (clock_open time number) (clock_spelled time small) later refl refl refl h.last refl refl (λ given M p k. (M, p, k)) h

@@ -12,4 +12,4 @@ returns-clause-stands g c = λ F names steps text h.
     let name = c.args.name.now in
     let is : IsClauseNumber number = (omega arith, (let l = c.if-self-ge-LAST_NAME.false in omega arith)) in
     written_named F names steps text s (record s { log = c.put_name.new.out; names = number }) (name_text number name) number name c.in_ok-put_name.ensures
-    (name_open number name is c.requires) (name_spelled number name is c.requires) refl refl refl refl h
+    (name_open number name is c.requires) (name_spelled number name is c.requires) refl refl refl refl refl h
