@@ -1,0 +1,6 @@
+pub mod Handshakes
+pub mod Links
+pub mod Numbers
+pub mod Records
+pub mod SipHash
+pub mod inner
