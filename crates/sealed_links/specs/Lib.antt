@@ -1,5 +1,6 @@
 pub mod Handshakes
 pub mod Links
+pub mod Meetings
 pub mod Numbers
 pub mod Records
 pub mod SipHash

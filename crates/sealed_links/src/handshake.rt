@@ -136,6 +136,13 @@ impl Handshake {
         count
     }
 
+    /// The number of bytes that are wanting to the peer's first message.
+    pub fn lacks(&self) -> usize
+        ensures { result ≡ 64 - length (heard_of self.now) }
+    {
+        HELLO.saturating_sub(self.count)
+    }
+
     /// The 32 bytes of what the peer sends that begin at this place.
     fn part(&self, place: usize) -> [u8; 32]
         requires { place + 32 ≤ 96 }

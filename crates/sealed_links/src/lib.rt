@@ -10,6 +10,7 @@
 mod handshake;
 mod incoming;
 mod key;
+mod link;
 mod numbers;
 mod opener;
 mod sealer;
@@ -18,6 +19,7 @@ mod siphash;
 pub use handshake::{Handshake, Session, Side, Verdict};
 pub use incoming::{Incoming, OpenFault};
 pub use key::SharedKey;
+pub use link::{Link, LinkEnd};
 pub use opener::Opener;
 pub use sealer::{MOST_BYTES, SealFault, Sealer};
 pub use siphash::{TagKey, tag};
