@@ -58,6 +58,8 @@ mod proof_trim_fragments;
 #[cfg(test)]
 mod runs_splits;
 #[cfg(test)]
+mod sealed_links_wire;
+#[cfg(test)]
 mod shared_lines_read;
 #[cfg(test)]
 mod told;

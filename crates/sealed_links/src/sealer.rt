@@ -1,6 +1,6 @@
 //! The end of a direction that makes records.
 
-ghost use Rattle.std.specs.Prelude.{◌≡◌, ◌+◌, ◌≤◌, ◌^◌, ◌↔◌, ◌++◌, length, OnOk, OnErr};
+ghost use Rattle.std.specs.Prelude.{◌≡◌, ◌+◌, ◌<◌, ◌≤◌, ◌^◌, ◌↔◌, ◌++◌, length, OnOk, OnErr};
 ghost use Rattle.sealed_links.specs.Numbers.{bytes4, bytes8};
 ghost use Rattle.sealed_links.specs.Records.{sealed};
 
@@ -70,6 +70,7 @@ impl Sealer {
         requires { length payload.now ≤ MOST_BYTES }
         ensures record { OnOk result (out.new.items ≡ out.old.items ++ sealed self.old.key self.old.number payload.now) }
         ensures next { OnOk result (self.new ≡ record self.old { number = self.old.number + 1 }) }
+        ensures few { OnOk result (self.old.number + 1 < 2 ^ 64) }
         ensures exhausted { (result ≡ Err SealFault.Exhausted) ↔ (self.old.number + 1 ≡ 2 ^ 64) }
         ensures err { OnErr result (self.new ≡ self.old) }
     {
