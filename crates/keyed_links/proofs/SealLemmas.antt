@@ -7,7 +7,7 @@ use Rattle.std.specs.List.{concat}
 use Rattle.sealed_links.specs.Records.{sealed, sealed_all}
 use Rattle.sealed_links.specs.declared.sealer.Sealer.{Sealer}
 use Rattle.sealed_links.proofs.OpenedLemmas.{sealed_all-push}
-use Rattle.keyed_links.specs.Seals.{SealsAll}
+use Rattle.keyed_links.specs.inner.Seals.{SealsAll}
 
 -- the records of the bytes so far, and the bytes that are left
 pub record SealsSoFar (old now : Sealer) (bytes left before after : List ℕ) : Type 0 where

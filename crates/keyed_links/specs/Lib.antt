@@ -1,2 +1,2 @@
 pub mod Carriers
-pub mod Seals
+pub mod inner

@@ -1,7 +1,7 @@
 //! What both sides do with bytes of a peer, and with bytes that they send.
 
 ghost use Rattle.std.specs.Prelude.{IsTrue};
-ghost use Rattle.keyed_links.specs.Seals.{SealsAll};
+ghost use Rattle.keyed_links.specs.inner.Seals.{SealsAll};
 
 use sealed_links::{Link, LinkEnd, MOST_BYTES, Sealer, SharedKey};
 use std::alloc::Global;
