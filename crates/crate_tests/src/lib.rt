@@ -44,6 +44,8 @@ mod icnf_trees;
 #[cfg(test)]
 mod inputs;
 #[cfg(test)]
+mod keyed_links_meetings;
+#[cfg(test)]
 mod links_carriers;
 #[cfg(test)]
 mod lrat_check_fragments;

@@ -70,7 +70,7 @@ fn tags_are_those_of_the_authors(rt: HostRuntime) {
 }
 
 /// A key of 32 equal bytes.
-fn key_of(rt: &impl Abort, alloc: Global, byte: u8) -> SharedKey {
+pub(crate) fn key_of(rt: &impl Abort, alloc: Global, byte: u8) -> SharedKey {
     let bytes = Vec::from_slice(alloc, &[byte; 32]).expect(rt, "memory");
     SharedKey::new(bytes).expect(rt, "32 bytes are a key")
 }
@@ -243,11 +243,19 @@ fn a_reflected_record_is_wrong(rt: HostRuntime) {
     assert!(&rt; out.is_empty());
 }
 
-/// All that a worker sends up to its first record, to the coordinator of `after_peer`.
-fn sent_by_worker(rt: &impl Abort, alloc: Global) -> Vec<u8> {
-    let key = key_of(rt, alloc, 7);
-    let mut here = Handshake::new(Side::Worker, [2; 32], [5; 32]);
-    let mut there = Handshake::new(Side::Coordinator, [1; 32], [5; 32]);
+/// The fresh value of a side.
+fn fresh_of(side: Side) -> [u8; 32] {
+    match side {
+        Side::Coordinator => [1; 32],
+        Side::Worker => [2; 32],
+    }
+}
+
+/// All that a side sends up to its first record, "one", to a peer of the other side: 127 bytes. Both have this key and the formula 5.
+pub(crate) fn sent_by(rt: &impl Abort, alloc: Global, own: Side, peers: Side, key: u8) -> Vec<u8> {
+    let key = key_of(rt, alloc, key);
+    let mut here = Handshake::new(own, fresh_of(own), [5; 32]);
+    let mut there = Handshake::new(peers, fresh_of(peers), [5; 32]);
     here.take(&there.hello());
     there.take(&here.hello());
     here.take(&there.reply(&key).expect(rt, "the first message has come"));
@@ -282,7 +290,7 @@ fn is_handed_on(rt: &impl Abort, alloc: Global, wire: &[u8], place: usize) {
 
 #[test]
 fn an_end_hands_on_the_first_record_wherever_the_bytes_are_cut(rt: HostRuntime) {
-    let wire = sent_by_worker(&rt, rt.alloc());
+    let wire = sent_by(&rt, rt.alloc(), Side::Worker, Side::Coordinator, 7);
     for place in [0, 1, 63, 64, 65, 95, 96, 97, 108, 126, 127] {
         is_handed_on(&rt, rt.alloc(), &wire, place);
     }
