@@ -33,7 +33,8 @@ KINDS: Dict[str, Tuple[str, List[str]]] = {
         "shared_logs", "shared_lines", "weaving", "proof_lift", "lidrup", "sessions", "answers"]),
     "machines and runs": ("#d8eaf7", [
         "runs", "event_loop", "links", "connections", "cluster", "honest_cluster", "worker_core",
-        "coordinator_core", "evidence", "frames", "hmac"]),
+        "coordinator_core", "evidence", "frames", "hmac", "keyed_links",
+        "sealed_links"]),
     "search": ("#dff0d8", [
         "formula_search", "renumbered_logs", "elimination", "cube_solve", "incremental",
         "cell_worker", "sharing",

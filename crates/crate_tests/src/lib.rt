@@ -44,6 +44,8 @@ mod icnf_trees;
 #[cfg(test)]
 mod inputs;
 #[cfg(test)]
+mod keyed_links_meetings;
+#[cfg(test)]
 mod links_carriers;
 #[cfg(test)]
 mod lrat_check_fragments;
@@ -57,6 +59,8 @@ mod lrat_text_steps;
 mod proof_trim_fragments;
 #[cfg(test)]
 mod runs_splits;
+#[cfg(test)]
+mod sealed_links_wire;
 #[cfg(test)]
 mod shared_lines_read;
 #[cfg(test)]

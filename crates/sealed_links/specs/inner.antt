@@ -1,0 +1,2 @@
+pub mod HandsOn
+pub mod Looks
