@@ -169,3 +169,8 @@ module _ {P : Type 0} where
   -- a search that went on behind longer lines went on behind those with which they begin
   pub further : (F : Cnf) (q : Cube) (a b : List SharedStep) (bytes : List ℕ) (e : Shared) (w : CellWorker P) → Extends a b → HasEnded F q b bytes e w → HasEnded F q a bytes e w
   further F q a b bytes e w by h = record { longer = h.longer; extends = extends_trans a b h.longer by h.extends; stands = h.stands; fits = h.fits }
+
+module _ {P : Type 0} where
+  -- a worker that has given no name
+  pub fresh_writing : (F : Cnf) (steps : List SharedStep) (w : CellWorker P) → names_in w ≡ 0 → HasWritten F [] steps [] w → IsWritingSteps F steps [] w
+  fresh_writing F steps w none h = record { names = []; written = h; named = λ n low high. absurd (omega (arith, none, low, high)) }

@@ -5,6 +5,7 @@
 //! assignment satisfies the formula; and a query that is told closed has a lemma in the log that closes it.
 #![tactic(auto)]
 
+mod beginning;
 mod exchange;
 mod folder;
 mod inbox;

@@ -11,6 +11,7 @@ ghost use Rattle.cell_worker.specs.WorkerLog.{IsRightTurn, IsSharedText, IsWorke
 ghost use Rattle.sharing.specs.Sharing.{FitsLines, IsBeginning, IsRightShare, leaf_line};
 ghost use Rattle.sharing.specs.inner.Writing.{Closing, HasEnded, IsLast, IsStanding, IsWriting, IsWritingSteps};
 
+use crate::beginning::{begin, search_alone};
 use crate::exchange::Exchange;
 use crate::folder::{Folder, Teller};
 use cell_worker::{CellWorker, Turn};
@@ -61,24 +62,24 @@ pub enum Shared {
 
 /// How many lemmas may still be learnt, and how many in a turn.
 #[derive(Clone, Copy)]
-struct Budget {
-    left: u64,
-    turn: u64,
+pub(crate) struct Budget {
+    pub(crate) left: u64,
+    pub(crate) turn: u64,
 }
 
 /// How the worker's search ends after a turn that ended so.
-fn ended(how: Turn) -> Shared
+pub(crate) fn ended(how: Turn) -> Shared
     ensures { (C : Cnf) (query : Cube) (steps lines : List SharedStep) → IsRightTurn C query lines how → FitsLines C query (steps ++ lines) result }
 {
     match how {
         Turn::Satisfied(values) => Shared::Satisfied(values),
         Turn::Closed(_) => Shared::Closed,
-        Turn::Limit => Shared::Limit,
+        Turn::Limit | Turn::Restored => Shared::Limit, // in both cases it goes on
     }
 }
 
 /// Appends what the worker has written to its log, and then what it offers to its offers.
-fn hand_out<F: Folder, P: Propagator>(
+pub(crate) fn hand_out<F: Folder, P: Propagator>(
     worker: &mut CellWorker<'_, P>,
     folder: &mut F,
 ) -> Result<(), Refusal>
@@ -204,7 +205,8 @@ fn next_place(place: usize, leaves: usize) -> usize
 }
 
 /// Searches for an assignment that satisfies the formula of a cell, and shares lemmas with the other workers of the folder. The worker
-/// searches under its first leaf; if that is closed, by itself or by a lemma that it takes over, this is told, and the worker goes on to the
+/// searches the whole formula for a turn by itself. If that does not decide it, variables are eliminated, but none that a cube names, and it
+/// begins again with what is left. It searches under its first leaf; if that is closed, by itself or by a lemma that it takes over, this is told, and the worker goes on to the
 /// leaf behind it, and so on through all leaves; then under the whole formula. The propagator has no clause yet, and the worker's log is
 /// empty.
 pub fn share<F: Folder, T: Teller, P: Propagator>(
@@ -222,17 +224,18 @@ pub fn share<F: Folder, T: Teller, P: Propagator>(
     ensures ended { IfOk result (λ end. F.has_logged folder.old [] → T.has_told teller.old []
         → (bytes told : List ℕ) × F.has_logged folder.new bytes × T.has_told teller.new told × IsRightShare cell.entry.formula.now cell.entry.tree.now bytes told end) }
 {
-    let mut worker = match CellWorker::new(alloc, propagator, cell.formula, cell.asked.seed) {
-        Ok(worker) => worker,
-        Err(_) => return Err(Refusal::NoMemory),
-    };
-    let mut exchange = match Exchange::of(alloc, cell.tree, cell.formula.vars()) {
-        Ok(exchange) => exchange,
-        Err(_) => return Err(Refusal::NoMemory),
-    };
     let mut budget = Budget {
         left: cell.asked.limit,
         turn: cell.asked.turn,
+    };
+    if let Some(alone) = search_alone(alloc, propagator, cell, folder, &mut budget)? {
+        return Ok(alone);
+    }
+    propagator.release();
+    let mut worker = begin(alloc, propagator, cell, folder)?;
+    let mut exchange = match Exchange::of(alloc, cell.tree, cell.formula.vars()) {
+        Ok(exchange) => exchange,
+        Err(_) => return Err(Refusal::NoMemory),
     };
     let leaves = cell.tree.leaves();
     let mut place = cell.first;

@@ -1,35 +1,41 @@
-use Rattle.std.proofs.Common.{◌<◌, [], ◌∙◌, sym, subst, arith}
+use Rattle.std.proofs.Common.{◌≡◌, ◌<◌, ℕ, List, [], Option, None, ◌∙◌, sym, subst}
+use Rattle.std.specs.Option.{IfNone, IfSome}
 use Rattle.dimacs.specs.logic.Literal.{IsTautology}
 use Rattle.lrat_text.specs.Log.{Cube}
-use Rattle.sharing.specs.Sharing.{HaveClosed}
+use Rattle.sharing.specs.Sharing.{HaveClosed, IsRightShare}
+use Rattle.sharing.specs.declared.run.Shared.{Shared}
 use Rattle.sharing.proofs.LeafLemmas.{have_closed, no_pair_at, tells_longer, tells_nothing, told_on, whole_fits}
-use Rattle.sharing.proofs.WritingLemmas.{beginning_whole, empty_text}
+use Rattle.sharing.proofs.WritingLemmas.{beginning_whole}
 use Rattle.sharing.proofs.run.share.Goals as goal
 
+-- nothing was handed out if nothing was decided
+quiet : {S : Type 0} (has_logged : S → List ℕ → Type 0) (found : Option Shared) (old new : S) → found ≡ None → IfNone found (new ≡ old) → has_logged old [] → has_logged new []
+quiet has_logged found old new is same h = subst (λ x. has_logged x []) (sym (subst (λ (o : Option Shared). IfNone o (new ≡ old)) is same)) h
+
 pub returns-in-Err-clause-log : goal.returns-in-Err-clause-log
-returns-in-Err-clause-log g c = λ f. ([], f, beginning_whole c.args.cell.formula.now [] [] [] (empty_text c.args.cell.formula.now))
+returns-in-Err-clause-log g c = λ f.
+    c.begin.ensures.log (quiet g.F.Folder.has_logged c.in_ok-alone.field-0 c.args.folder.now c.search_alone.new.folder c.in_default.is c.in_ok-alone.ensures.quiet f)
+
+pub returns-in_err-worker-clause-log : goal.returns-in_err-worker-clause-log
+returns-in_err-worker-clause-log g c = λ f.
+    c.begin.ensures.log (quiet g.F.Folder.has_logged c.in_ok-alone.field-0 c.args.folder.now c.search_alone.new.folder c.in_default.is c.in_ok-alone.ensures.quiet f)
+
+pub returns-in-Some-clause-ended : goal.returns-in-Some-clause-ended
+returns-in-Some-clause-ended g c = λ f t.
+    let F = c.args.cell.formula.now in
+    let x = subst (λ o. IfSome o (λ end. g.F.Folder.has_logged c.args.folder.now [] → (bytes : List ℕ) × g.F.Folder.has_logged c.search_alone.new.folder bytes × IsRightShare F c.args.cell.tree.now bytes [] end)) c.in-Some.is
+    c.in_ok-alone.ensures.ended f in
+    (x.0, [], x.1, t, x.2)
 
 pub leaves-init : goal.leaves-init
 leaves-init g c =
-    let e = c.in-Ok.ensures in (
+    let e = c.in_ok-worker.ensures in (
       e.ready,
       e.vars,
       c.requires.first,
-      λ f. (
-        [],
-        f,
-        [],
-        record {
-          writing = record {
-            names = [];
-            written = e.stands;
-            named = λ n low high. absurd (let a = e.names in omega (arith, low, high, a));
-          };
-          names = [];
-          is = empty_text c.args.cell.formula.now;
-        },
-        λ t. ([], t, tells_nothing c.args.cell.tree.now []),
-      ),
+      λ f.
+          let x = e.stands (quiet g.F.Folder.has_logged c.in_ok-alone.field-0 c.args.folder.now c.search_alone.new.folder c.in_default.is c.in_ok-alone.ensures.quiet f) in
+          (x.0, x.1, x.2, x.3, λ t. ([], t, tells_nothing c.args.cell.tree.now x.2)),
     )
 
 pub search-requires-clause-consistent : goal.search-requires-clause-consistent
