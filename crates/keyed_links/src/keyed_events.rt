@@ -155,7 +155,10 @@ impl<C: EventCarrier, R: RandomSource> KeyedEvents<C, R> {
             &mut self.pending.bytes,
         ) {
             Ok(link) => self.peers.put(place, Some(Peer { link, since })),
-            Err(_) => return Event::Bytes { place, count: 0 },
+            Err(_) => {
+                self.pending.begin(place);
+                return Event::Bytes { place, count: 0 };
+            }
         }
         match self.pending.hand_out(room) {
             Some(count) => Event::Bytes { place, count },
@@ -221,13 +224,15 @@ impl<C: EventCarrier, R: RandomSource> KeyedEvents<C, R> {
 }
 
 impl<C: EventCarrier, R: RandomSource> EventCarrier for KeyedEvents<C, R> {
-    /// Hands out what records have brought, or else waits for the next event beneath.
+    /// Hands out what records have brought, or else waits for the next event beneath. An empty room is told `Quiet` at once, so that nothing
+    /// is opened for which there is no room.
     fn await_any(&mut self, room: &mut [u8]) -> Arrival {
         let event = match self.pending.hand_out(room) {
             Some(count) => Event::Bytes {
                 place: self.pending.place,
                 count,
             },
+            None if room.is_empty() => Event::Quiet,
             None => self.next_event(room),
         };
         Arrival {
