@@ -3,6 +3,7 @@
 use crate::inputs::{FOUR, UNITS, literal_of};
 use cell_worker::{CellWorker, Turn};
 use dimacs::read;
+use elimination::eliminate;
 use std::process::Abort;
 use std::test::Fail;
 use watches::Watched;
@@ -51,5 +52,26 @@ fn a_worker_finds_an_assignment(rt: HostRuntime) -> Result<(), Fail> {
         _ => assert!(rt; false),
     }
     assert!(rt; !worker.advance(1 << 40).expect(&rt, "memory"));
+    Ok(())
+}
+
+/// Over what elimination leaves of the four clauses the log begins with a resolvent, under the number 5, and the lemma that closes the
+/// formula has a number behind all of them.
+#[test]
+fn a_worker_eliminates(rt: HostRuntime) -> Result<(), Fail> {
+    let formula = read(rt.alloc(), FOUR)?;
+    let found = eliminate(rt.alloc(), &formula, &[]).expect(&rt, "memory");
+    let kept = found.ok_or("nothing is left")?;
+    let all = kept.all;
+    assert!(rt; 4 < all && all < 100);
+    let mut watches = Watched::new(rt.alloc());
+    let mut worker = CellWorker::over(rt.alloc(), &mut watches, &formula, kept, 0).expect(
+        &rt, "memory",
+    );
+    assert!(rt; worker.written().first() == Some(&b'5'));
+    match worker.turn(&[], 100).expect(&rt, "memory") {
+        Turn::Closed(number) => assert!(rt; all < number),
+        _ => assert!(rt; false),
+    }
     Ok(())
 }
