@@ -206,9 +206,9 @@ fn next_place(place: usize, leaves: usize) -> usize
 
 /// Searches for an assignment that satisfies the formula of a cell, and shares lemmas with the other workers of the folder. The worker
 /// searches the whole formula for a turn by itself. If that does not decide it, variables are eliminated, but none that a cube names, and it
-/// begins again with what is left. It searches under its first leaf; if that is closed, by itself or by a lemma that it takes over, this is told, and the worker goes on to the
-/// leaf behind it, and so on through all leaves; then under the whole formula. The propagator has no clause yet, and the worker's log is
-/// empty.
+/// begins again with what is left. It searches under its first leaf; if that is closed, by itself or by a lemma that it takes over, this is
+/// told, and the worker goes on to the leaf behind it, and so on through all leaves; then under the whole formula. The propagator has no
+/// clause yet, and the worker's log is empty.
 pub fn share<F: Folder, T: Teller, P: Propagator>(
     alloc: Global,
     propagator: &mut P,
